@@ -1,0 +1,2 @@
+pub mod Literal
+pub mod Lits
