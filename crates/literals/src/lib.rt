@@ -87,7 +87,12 @@ impl Literal {
         ensures { λ r. ⌜ r ≡ bitOf (self .value) ⌝ }
     {
         let n = self.size();
-        if n == 0 { 0 } else { masks::single(n - 1) }
+        if n == 0 {
+            0
+        } else {
+            let bit = n - 1;
+            masks::single(bit)
+        }
     }
 
     // The set that holds this literal alone.

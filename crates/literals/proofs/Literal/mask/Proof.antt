@@ -8,8 +8,8 @@ use Rattle.literals.proofs.Literal.mask.Tie as tie
 size-requires : tie.Need-size-requires
 size-requires c κs = search needs
 
-sub-single : tie.Need-sub-single
-sub-single c = search needs
+sub-bit : tie.Need-sub-bit
+sub-bit c = search needs
 
 single-requires : tie.Need-single-requires
 single-requires c κs = search needs
@@ -25,4 +25,4 @@ returns-2 c =
     rw (← c .before .before .size .ensures) (rw (ne-eqb n 0 (c .before .if1 .left)) (c .single .ensures))
 
 pub mask-spec : {M : Type 1} → statement M
-mask-spec = tie.close (tie.spec size-requires sub-single single-requires returns returns-2)
+mask-spec = tie.close (tie.spec size-requires sub-bit single-requires returns returns-2)

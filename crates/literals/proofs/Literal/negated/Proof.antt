@@ -1,15 +1,11 @@
 -- `Literal::negated` meets its contract: a literal is far from the ends of the type, so its negation is in range; anything else stays.
-use mathlib.Core.Path.{_≡_, sym, _∙_}
+use mathlib.Core.Path.{_≡_, sym, ap, _∙_}
 use mathlib.Core.Bool.{true}
 use borrow.Author.Needs.{needs}
-use mir.Syntax.{w64}
-use mir.Val.{SFits}
+use lib.IntN.{negℤ}
 use Rattle.literals.specs.Literal.{isLiteral}
-use Rattle.literals.proofs.Signed.{back, turned}
+use Rattle.literals.proofs.Signed.{again, back, turned}
 use Rattle.literals.proofs.Opposites.{opposite-literal, opposite-other, opposite-fits}
-use Rattle.literals.proofs.Literal.is_literal.Reads as is-literal-reads
-use Rattle.literals.proofs.Literal.negated.Reads as reads
-use Rattle.literals.proofs.Literal.negated.Lts as lts
 use Rattle.literals.proofs.Literal.negated.Statement.{statement}
 use Rattle.literals.proofs.Literal.negated.Tie as tie
 
@@ -26,8 +22,8 @@ returns : tie.Need-returns
 returns c =
     let z = c .before .before .before .args .self .value in
     let yes : isLiteral z ≡ true = sym (c .before .before .is-literal .ensures) ∙ c .before .if1 .taken in
-    rw (turned z (record { sfits = c .struct-told .given .0 .1 }))
-    (back _ (opposite-fits z yes) ∙ sym (opposite-literal z yes))
+    let turns = turned z (record { sfits = c .struct-told .given .0 .1 }) in
+    ap again turns ∙ back (negℤ z) (opposite-fits z yes) ∙ sym (opposite-literal z yes)
 
 returns-2 : tie.Need-returns-2
 returns-2 c =
