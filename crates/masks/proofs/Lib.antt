@@ -1,0 +1,5 @@
+pub mod Choice
+pub mod Sums
+pub mod Bits
+pub mod Sets
+pub mod Counts
