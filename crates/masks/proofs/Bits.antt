@@ -74,9 +74,9 @@ has-zero v = ap (λ (x : ℕ). eqb x 1) (bit-zero v)
 pub bit-ext : (a b : ℕ) → ((v : ℕ) → bit a v ≡ bit b v) → a ≡ b
 bit-ext =
     bin-ind (λ (n : ℕ). (b : ℕ) → ((v : ℕ) → bit n v ≡ bit b v) → n ≡ b)
-      (bin-ind (λ (b : ℕ). ((v : ℕ) → bit 0 v ≡ bit b v) → 0 ≡ b) (λ h. refl)
-        (λ b ih h. omega (arith, ih (λ v. sym (bit-up 0 v) ∙ h (suc v) ∙ bit-up b v), sym (bit-low 0) ∙ h 0 ∙ bit-low b)))
-      (λ n ih b h. omega (arith, ih (b / 2) (λ v. sym (bit-up n v) ∙ h (suc v) ∙ bit-up b v), sym (bit-low n) ∙ h 0 ∙ bit-low b))
+    (bin-ind (λ (b : ℕ). ((v : ℕ) → bit 0 v ≡ bit b v) → 0 ≡ b) (λ h. refl)
+    (λ b ih h. omega (arith, ih (λ v. sym (bit-up 0 v) ∙ h (suc v) ∙ bit-up b v), sym (bit-low 0) ∙ h 0 ∙ bit-low b)))
+    (λ n ih b h. omega (arith, ih (b / 2) (λ v. sym (bit-up n v) ∙ h (suc v) ∙ bit-up b v), sym (bit-low n) ∙ h 0 ∙ bit-low b))
 
 pub has-ext : {a b : ℕ} → ((v : ℕ) → has a v ≡ has b v) → a ≡ b
 has-ext {a} {b} h = bit-ext a b (λ v. bit-has a v ∙ ap (λ (t : Bool). cond t 1 0) (h v) ∙ sym (bit-has b v))
@@ -114,8 +114,8 @@ pub below-shr : (m n : ℕ) → below m n ≡ eqb (m / 2 ^ n) 0
 unfolding below
 below-shr m n =
     same-test
-      (λ t. eq-eqb (m / 2 ^ n) 0 (div-eq-of-lt (ltb-true m (2 ^ n) t)))
-      (λ t. lt-ltb m (2 ^ n) (shr-empty m n (eqb-true (m / 2 ^ n) 0 t)))
+    (λ t. eq-eqb (m / 2 ^ n) 0 (div-eq-of-lt (ltb-true m (2 ^ n) t)))
+    (λ t. lt-ltb m (2 ^ n) (shr-empty m n (eqb-true (m / 2 ^ n) 0 t)))
 
 pub has-ext-below : (n : ℕ) {a b : ℕ} → a < 2 ^ n → b < 2 ^ n → ((v : ℕ) → v < n → has a v ≡ has b v) → a ≡ b
 has-ext-below n ha hb h =

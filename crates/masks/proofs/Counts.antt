@@ -33,7 +33,7 @@ ones-sum zero n l = ap ones (lt-one l)
 ones-sum (suc k) n l =
     ones-step n
     ∙ ap₂ (λ (x y : ℕ). x + y) (sym (bit-low n))
-        (ones-sum k (n / 2) (div-lt-iff-lt-mul (zero-lt-suc 1) .1 (rw pow-suc at l)) ∙ sum-ext k (λ i h. sym (bit-up n i)))
+    (ones-sum k (n / 2) (div-lt-iff-lt-mul (zero-lt-suc 1) .1 (rw pow-suc at l)) ∙ sum-ext k (λ i h. sym (bit-up n i)))
     ∙ sym (sum-front k (bit n))
 
 pub count-ones : {m : ℕ} → m < 2 ^ 64 → count m ≡ ones m
@@ -64,7 +64,7 @@ pub count-or : (a b : ℕ) → bitAnd a b ≡ 0 → count (bitOr a b) ≡ count 
 count-or a b e =
     count-split (bitOr a b) a
     ∙ ap₂ (λ (x y : ℕ). count x + count y) (and-comm (bitOr a b) a ∙ and-or-self a b)
-        (ap (λ (x : ℕ). without x a) (or-comm a b) ∙ without-or-right b a ∙ without-apart b a (and-comm b a ∙ e))
+    (ap (λ (x : ℕ). without x a) (or-comm a b) ∙ without-or-right b a ∙ without-apart b a (and-comm b a ∙ e))
 
 pub count-without : (a b : ℕ) → without b a ≡ 0 → count a ≡ count b + count (without a b)
 count-without a b e = count-split a b ∙ ap (λ (x : ℕ). count x + count (without a b)) (and-comm a b ∙ within-and b a e)
@@ -76,9 +76,9 @@ count-mono a b e = omega (arith, count-without b a e)
 pub count-proper : {a b : ℕ} → b < 2 ^ 64 → without a b ≡ 0 → (a ≡ b → ⊥) → count a < count b
 count-proper {a} {b} l e h =
     ⊎-elim
-      (λ z. absurd (h (within-antisym a b e (count-empty (without-lt 64 a l) z))))
-      (λ p. omega (arith, count-without b a e))
-      (eq-zero-or-pos (count (without b a)))
+    (λ z. absurd (h (within-antisym a b e (count-empty (without-lt 64 a l) z))))
+    (λ p. omega (arith, count-without b a e))
+    (eq-zero-or-pos (count (without b a)))
 
 pub count-pos : {m : ℕ} → m < 2 ^ 64 → 0 < m → 0 < count m
 count-pos {m} l p = ⊎-elim (λ z. absurd (omega (arith, count-empty l z))) (λ q. q) (eq-zero-or-pos (count m))
@@ -100,8 +100,8 @@ count-take m v l e = omega (arith, count-without m (2 ^ v) (pow-within m v e), c
 pub count-one-only : (m v w : ℕ) → v < 64 → w < 64 → count m ≡ 1 → has m v ≡ true → has m w ≡ true → w ≡ v
 count-one-only m v w l k e p q =
     ⊎-elim (λ t. eqb-true w v t)
-      (λ t. absurd (omega (arith, count-take m v l p, count-take (without m (2 ^ v)) w k (has-take-other m v w (eqb-false w v t) ∙ q))))
-      (cases (eqb w v))
+    (λ t. absurd (omega (arith, count-take m v l p, count-take (without m (2 ^ v)) w k (has-take-other m v w (eqb-false w v t) ∙ q))))
+    (cases (eqb w v))
 
 -- ---- the lowest element
 
@@ -145,9 +145,9 @@ trailing-pow k v l = trailing-unique k (2 ^ v) v l (has-pow-same v) (λ w s. has
 pub trailing-lt : (k : ℕ) {m : ℕ} → m < 2 ^ k → 0 < m → trailingZeros k m < k
 trailing-lt k {m} l p =
     ⊎-elim
-      (λ t. ltb-true (trailingZeros k m) k t)
-      (λ t. absurd (omega (arith, empty-below k l (λ v s. trailing-under k m v (lt-of-lt-of-le s (ltb-false (trailingZeros k m) k t))))))
-      (cases (ltb (trailingZeros k m) k))
+    (λ t. ltb-true (trailingZeros k m) k t)
+    (λ t. absurd (omega (arith, empty-below k l (λ v s. trailing-under k m v (lt-of-lt-of-le s (ltb-false (trailingZeros k m) k t))))))
+    (cases (ltb (trailingZeros k m) k))
 
 -- ---- the same for masks of 64 bits
 

@@ -1,0 +1,38 @@
+-- A call on a desk as a value: a decision, a rewriting, a taking back. A refused call leaves the desk as it found it.
+use Prim.Native.Nat.{ℕ}
+use mathlib.Core.List.{List, [], _∷_}
+use lib.IntN.{ℤ}
+use Rattle.rules.specs.declared.Judged.{Judged}
+use Rattle.rules.specs.declared.Judged.the-variants.{Fine, Refused}
+use Rattle.rules.specs.Decide.{decideWhy, decideStep}
+use Rattle.rules.specs.Rewrite.{rewriteWhy, rewriteStep}
+use Rattle.rules.specs.TakeBack.{takeBackWhy, takeBackStep}
+
+pub data Call : Type 0 where
+  decide : ℤ → Call
+  rewrite : ℕ → List ℕ → Call
+  takeBack : Call
+
+abbrev pub callWhy : List ℕ → Call → Judged
+callWhy d (decide l) = decideWhy d l
+callWhy d (rewrite kind named) = rewriteWhy d kind named
+callWhy d takeBack = takeBackWhy d
+
+abbrev pub callStep : List ℕ → Call → List ℕ
+callStep d (decide l) = decideStep d l
+callStep d (rewrite kind named) = rewriteStep d kind named
+callStep d takeBack = takeBackStep d
+
+-- the words of `step` where a call is fine, else those it found
+abbrev pub unlessRefused : Judged → List ℕ → List ℕ → List ℕ
+unlessRefused Fine step d = step
+unlessRefused (Refused r) step d = d
+
+unfoldable pub afterCall : List ℕ → Call → List ℕ
+afterCall d call =
+    let step = callStep d call in
+    unlessRefused (callWhy d call) step d
+
+unfoldable pub afterCalls : List ℕ → List Call → List ℕ
+afterCalls d [] = d
+afterCalls d (call ∷ calls) = afterCalls (afterCall d call) calls

@@ -1,0 +1,14 @@
+pub mod Refusals
+pub mod Table
+pub mod Desk
+pub mod Decide
+pub mod Rewrite
+pub mod TakeBack
+pub mod Bound
+pub mod Walk
+pub mod Text
+pub mod Reader
+pub mod Program
+pub mod Figures
+pub mod Calls
+pub mod Examples

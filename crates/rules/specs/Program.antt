@@ -1,0 +1,71 @@
+-- Document 01, "The text" and "Refusal numbers": what the program answers, from input bytes to output bytes.
+use Prim.Native.Nat.{ℕ, _+_, _-_, _*_, _^_}
+use mathlib.Core.List.{List, [], _++_}
+use mathlib.Core.Bool.{Bool, true, cond}
+use lib.ListN.{length, replicate}
+use lib.Dec.{ltb}
+use Rattle.masks.specs.Masks.{without}
+use Rattle.literals.specs.declared.Lits.{Lits}
+use Rattle.rules.specs.declared.Refusal.{Refusal}
+use Rattle.rules.specs.declared.Refusal.the-variants.{InputTooLong}
+use Rattle.rules.specs.declared.Judged.{Judged}
+use Rattle.rules.specs.declared.Judged.the-variants.{Fine, Refused}
+use Rattle.rules.specs.declared.Status.{Status}
+use Rattle.rules.specs.declared.Best.{Best}
+use Rattle.rules.specs.declared.Found.{Found}
+use Rattle.rules.specs.declared.TextRead.{TextRead}
+use Rattle.rules.specs.Refusals.{numberOf, placeOf}
+use Rattle.rules.specs.Table.{rowWords, mostRows}
+use Rattle.rules.specs.Desk.{deskWords, loadWhy, loadStep}
+use Rattle.rules.specs.Bound.{bound}
+use Rattle.rules.specs.Walk.{walkOf, foundBy}
+use Rattle.rules.specs.Text.{bytes, numberText, line, litsText}
+use Rattle.rules.specs.Reader.{textRead, readWords}
+
+-- 19: input over 65,536 bytes
+abbrev pub mostInput : ℕ
+mostInput = 65_536
+
+-- "A refusal writes three lines: status=refused, number=, place=."
+unfoldable pub refusalText : Refusal → List ℕ
+refusalText r = line "status=" (bytes "refused") ++ (line "number=" (numberText (numberOf r)) ++ line "place=" (numberText (placeOf r)))
+
+abbrev pub statusText : Status → List ℕ
+statusText Status.Done = bytes "done"
+statusText Status.Stopped = bytes "stopped"
+
+abbrev pub weightText : Best → List ℕ
+weightText Best.Nothing = bytes "none"
+weightText (Best.Reading weight reading) = numberText weight
+
+-- "`reading=` holds one literal for each variable"
+abbrev pub readingText : ℕ → Best → List ℕ
+readingText variables Best.Nothing = bytes "none"
+readingText variables (Best.Reading weight reading) =
+    litsText variables (record { positive = reading; negative = without (2 ^ variables - 1) reading })
+
+unfoldable pub foundText : ℕ → Found → List ℕ
+foundText variables f =
+    line "status=" (statusText (f .status))
+    ++ (line "weight=" (weightText (f .best))
+    ++ (line "nodes=" (numberText (f .nodes))
+    ++ line "reading=" (readingText variables (f .best))))
+
+-- the desk of the program: as many rows as the table has, and no more
+unfoldable pub programDesk : ℕ → ℕ → List ℕ → List ℕ
+programDesk variables m table = loadStep variables table m (replicate (deskWords m) 0)
+
+abbrev pub loadedAnswer : Judged → List ℕ → List ℕ
+loadedAnswer Fine found = found
+loadedAnswer (Refused r) found = refusalText r
+
+abbrev pub readAnswer : List ℕ → TextRead → List ℕ
+readAnswer table (TextRead.Table variables budget m) =
+    let d = programDesk variables m table in
+    let found = foundText variables (foundBy (walkOf (bound d) (λ v. true) d budget)) in
+    loadedAnswer (loadWhy variables table m (replicate (deskWords m) 0)) found
+readAnswer table (TextRead.Refused r) = refusalText r
+
+-- Program: 19, reader, load.
+unfoldable pub answer : List ℕ → List ℕ
+answer input = cond (ltb mostInput (length input)) (refusalText InputTooLong) (readAnswer (readWords input) (textRead input (rowWords * mostRows)))

@@ -1,0 +1,102 @@
+-- Document 01, "The clause table": rows, an admissible table, the weight of a reading.
+use Prim.Native.Nat.{ℕ, zero, suc, _+_, _*_, _/_, _%_}
+use mathlib.Core.List.{List}
+use mathlib.Core.Bool.{Bool, cond, not, _&&_, _||_}
+use lib.ListN.{length, getD}
+use lib.Bits.{bitAnd}
+use lib.Dec.{eqb, leb, ltb}
+use Rattle.masks.specs.Masks.{none, without, below}
+use Rattle.masks.specs.Sums.{sum}
+use Rattle.literals.specs.declared.Lits.{Lits}
+use Rattle.literals.specs.Literal.{mostVariables}
+use Rattle.rules.specs.declared.Row.{Row}
+use Rattle.rules.specs.declared.Weighed.{Weighed}
+use Rattle.rules.specs.declared.Refusal.the-variants.{TooManyVariables, BadTable, BadLiterals, BadWeight, SumTooLarge, BadReading}
+use Rattle.rules.specs.declared.Judged.{Judged}
+use Rattle.rules.specs.declared.Judged.the-variants.{Fine, Refused}
+use Rattle.rules.specs.Refusals.{refuse, inOrder}
+
+abbrev pub rowWords : ℕ
+rowWords = 3
+
+-- rows that may be loaded
+abbrev pub mostRows : ℕ
+mostRows = 512
+
+-- the limit of a weight, and of the weights' sum
+abbrev pub mostWeight : ℕ
+mostWeight = 1_000_000_000
+
+-- "Rows of three 64-bit words: mask of positive literals, mask of negative ones, weight": the row whose words begin at a place
+unfoldable pub rowIn : List ℕ → ℕ → Row
+rowIn words at =
+    record {
+      lits = record { positive = getD words at 0; negative = getD words (at + 1) 0 };
+      weight = getD words (at + 2) 0;
+    }
+
+-- row i of a table; rows are numbered from 0
+unfoldable pub rowOf : List ℕ → ℕ → Row
+rowOf table i = rowIn table (rowWords * i)
+
+unfoldable pub rowCount : List ℕ → ℕ
+rowCount table = length table / rowWords
+
+-- A full reading is the mask of the true variables. It satisfies literals of which one is true; no literals are never satisfied.
+unfoldable pub holds : Lits → ℕ → Bool
+holds l reading = not (none (bitAnd (l .positive) reading)) || not (none (without (l .negative) reading))
+
+-- what a row adds to a reading's weight
+unfoldable pub givenUp : Row → ℕ → ℕ
+givenUp row reading = cond (holds (row .lits) reading) 0 (row .weight)
+
+-- "It weighs the sum of the weights of the rows it doesn't satisfy"
+unfoldable pub weighs : List ℕ → ℕ → ℕ
+weighs table reading = sum (rowCount table) (λ i. givenUp (rowOf table i) reading)
+
+-- 2: table words not a multiple of 3, or over 512 rows
+unfoldable pub badTable : List ℕ → Bool
+badTable table = not (eqb (length table % rowWords) 0) || ltb mostRows (rowCount table)
+
+-- 5: a row has a variable both ways or above the count
+unfoldable pub badLits : ℕ → Lits → Bool
+badLits variables l = not (none (bitAnd (l .positive) (l .negative))) || not (below (l .positive) variables && below (l .negative) variables)
+
+-- 6: weight 0 or over 1,000,000,000
+unfoldable pub badWeight : ℕ → Bool
+badWeight w = eqb w 0 || ltb mostWeight w
+
+unfoldable pub rowWhy : ℕ → ℕ → Row → Judged
+rowWhy variables i row =
+    refuse (badLits variables (row .lits)) (BadLiterals i)
+    (refuse (badWeight (row .weight)) (BadWeight i) Fine)
+
+-- "rows in order with 5 before 6": the first refusal among the first k rows
+unfoldable pub rowsWhy : ℕ → List ℕ → ℕ → Judged
+rowsWhy variables table zero = Fine
+rowsWhy variables table (suc k) = inOrder (rowsWhy variables table k) (rowWhy variables k (rowOf table k))
+
+-- 7: weights sum over 1,000,000,000
+unfoldable pub sumTooLarge : List ℕ → Bool
+sumTooLarge table = ltb mostWeight (sum (rowCount table) (λ i. rowOf table i .weight))
+
+-- An admissible table for a count of variables is refused by none of 1, 2, rows, 7.
+unfoldable pub tableWhy : ℕ → List ℕ → Judged
+tableWhy variables table =
+    refuse (ltb mostVariables variables) TooManyVariables
+    (refuse (badTable table) BadTable
+    (inOrder (rowsWhy variables table (rowCount table))
+    (refuse (sumTooLarge table) SumTooLarge Fine)))
+
+-- Weight of a reading: 1, 2, rows, 7, 8.
+unfoldable pub weighWhy : ℕ → List ℕ → ℕ → Judged
+weighWhy variables table reading =
+    inOrder (tableWhy variables table)
+    (refuse (not (below reading variables)) BadReading Fine)
+
+abbrev pub weighedAs : Judged → ℕ → Weighed
+weighedAs Fine w = Weighed.Weight w
+weighedAs (Refused r) w = Weighed.Refused r
+
+unfoldable pub weighed : ℕ → List ℕ → ℕ → Weighed
+weighed variables table reading = weighedAs (weighWhy variables table reading) (weighs table reading)

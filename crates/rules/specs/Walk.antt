@@ -1,0 +1,116 @@
+-- Document 01, "The bound and the walk": the walk with its budget, over any bound and any value tried first, and the search.
+use Prim.Native.Nat.{ℕ, zero, suc, _+_}
+use mathlib.Core.List.{List, [], _∷_, _++_}
+use mathlib.Core.Bool.{Bool, true, false, cond, not}
+use lib.Bits.{bitOr}
+use lib.Dec.{leb, ltb}
+use Rattle.masks.specs.Masks.{has, single}
+use Rattle.rules.specs.declared.Part.{Part}
+use Rattle.rules.specs.declared.Walked.{Walked}
+use Rattle.rules.specs.declared.Status.{Status}
+use Rattle.rules.specs.declared.Best.{Best}
+use Rattle.rules.specs.declared.Found.{Found}
+use Rattle.rules.specs.declared.Searched.{Searched}
+use Rattle.rules.specs.declared.Judged.{Judged}
+use Rattle.rules.specs.declared.Judged.the-variants.{Fine, Refused}
+use Rattle.rules.specs.Desk.{variables, decided, weightOn, decisions}
+use Rattle.rules.specs.Bound.{bound, deskWhy}
+
+-- "a 32-bit number, 0 to 4,294,967,295"
+abbrev pub mostBudget : ℕ
+mostBudget = 4_294_967_295
+
+-- "Fixing one more variable makes a new partial reading"
+unfoldable pub fixed : Part → ℕ → Bool → Part
+fixed p v value =
+    record {
+      decided = bitOr (p .decided) (single v);
+      truths = cond value (bitOr (p .truths) (single v)) (p .truths);
+    }
+
+-- "Visiting a node counts 1."
+unfoldable pub visited : Walked → Walked
+visited s =
+    record {
+      nodes = s .nodes + 1;
+      best = s .best;
+      kept = s .kept;
+      reading = s .reading;
+      stopped = s .stopped;
+    }
+
+-- "With no variable left, its bound becomes best and its reading is kept."
+unfoldable pub keptAt : ℕ → ℕ → Walked → Walked
+keptAt weight reading s =
+    record {
+      nodes = s .nodes;
+      best = weight;
+      kept = true;
+      reading = reading;
+      stopped = s .stopped;
+    }
+
+-- "if one was due and couldn't be, the search is stopped"
+unfoldable pub halted : Walked → Walked
+halted s =
+    record {
+      nodes = s .nodes;
+      best = s .best;
+      kept = s .kept;
+      reading = s .reading;
+      stopped = true;
+    }
+
+-- A node is due. "A node is entered only while the count is below the budget"; "If its bound is at least best, it is cut";
+-- else what is beyond the cut.
+abbrev pub entering : ℕ → ℕ → Walked → Walked → Walked
+entering budget b s beyond = cond (ltb (s .nodes) budget) (cond (leb (s .best) b) (visited s) beyond) (halted s)
+
+-- The walk below a node: the variables that are left, its partial reading, and how far the walk has come. "Otherwise the next
+-- variable is tried true, then false": `first` says of each variable which value is tried first.
+unfoldable pub walk : (Part → ℕ) → (ℕ → Bool) → ℕ → List ℕ → Part → Walked → Walked
+walk bound first budget [] p s =
+    let beyond = keptAt (bound p) (p .truths) (visited s) in
+    entering budget (bound p) s beyond
+walk bound first budget (v ∷ vs) p s =
+    let one = walk bound first budget vs (fixed p v (first v)) (visited s) in
+    let both = walk bound first budget vs (fixed p v (not (first v))) one in
+    entering budget (bound p) s both
+
+-- "the undecided variables in rising order", of those with a bit below n
+unfoldable pub undecided : ℕ → ℕ → List ℕ
+undecided zero decided = []
+undecided (suc n) decided = undecided n decided ++ cond (has decided n) [] (n ∷ [])
+
+-- "The walk starts with best = conceded + all weights in use + 1 and no reading."
+unfoldable pub atStart : List ℕ → Walked
+atStart d =
+    record {
+      nodes = 0;
+      best = weightOn d + 1;
+      kept = false;
+      reading = 0;
+      stopped = false;
+    }
+
+unfoldable pub walkOf : (Part → ℕ) → (ℕ → Bool) → List ℕ → ℕ → Walked
+walkOf bound first d budget = walk bound first budget (undecided (variables d) (decided d)) (decisions d) (atStart d)
+
+abbrev pub statusOf : Bool → Status
+statusOf true = Status.Stopped
+statusOf false = Status.Done
+
+abbrev pub bestOf : Bool → ℕ → ℕ → Best
+bestOf true weight reading = Best.Reading weight reading
+bestOf false weight reading = Best.Nothing
+
+abbrev pub foundBy : Walked → Found
+foundBy s = record { status = statusOf (s .stopped); best = bestOf (s .kept) (s .best) (s .reading); nodes = s .nodes }
+
+abbrev pub searchedAs : Judged → Found → Searched
+searchedAs Fine f = Searched.Found f
+searchedAs (Refused r) f = Searched.Refused r
+
+-- the search: true before false, by the bound above
+unfoldable pub searched : List ℕ → ℕ → Searched
+searched d budget = searchedAs (deskWhy d) (foundBy (walkOf (bound d) (λ v. true) d budget))
