@@ -3,16 +3,14 @@
 -- The laws that end in `-more` meet code, which counts by `n + 1`.
 use Prim.Native.Nat.{ℕ, zero, suc, _+_, _*_, _≤_, _<_, min}
 use mathlib.Core.Path.{_≡_, refl, sym, ap, ap₂, _∙_, subst}
-use mathlib.Core.Logic.{_↔_, _⊎_, inl, inr, ⊎-elim}
+use mathlib.Core.Logic.{_↔_, ⊎-elim}
 use mathlib.Core.Bool.{Bool, true, false, _&&_, true≢false}
 use native.Mathlib.Nat.{le-refl, le-step, le-of-lt, le-of-suc-le-suc, eq-or-lt-of-le, not-suc-le-zero, add-zero, add-suc, mul-zero, mul-add, min-le-right, min-eq-left, min-eq-right, le-min}
 use native.Mathlib.Numerals.{add-one}
 use native.Mathlib.Omega.{arith}
-use borrow.Author.Tests.{leb-true, leb-false}
 use lib.Arith.{le-zero}
-use lib.Dec.{leb}
 use Rattle.masks.specs.Sums.{sum, every, smallest}
-use Rattle.masks.proofs.Choice.{cases, not-so, and-left, and-right, and-swap}
+use Rattle.masks.proofs.Choice.{cases, lt-or-le, not-so, clash, and-left, and-right, and-swap}
 
 -- ---- what holds below suc n: below n, and at n
 
@@ -97,9 +95,9 @@ unfolding sum
 sum-change zero i l h = absurd (not-suc-le-zero l)
 sum-change (suc n) {f} {g} i l h =
     ⊎-elim
-      (λ e. rw e (omega (arith, sum-ext n {f = f} {g = g} (λ j m. h j (le-step m) (λ q. omega arith)))))
-      (λ m. omega (arith, sum-change n {f = f} {g = g} i m (λ j k. h j (le-step k)), h n (le-refl (suc n)) (λ q. omega arith)))
-      (eq-or-lt-of-le (le-of-suc-le-suc l))
+    (λ e. rw e (omega (arith, sum-ext n {f = f} {g = g} (λ j m. h j (le-step m) (λ q. omega arith)))))
+    (λ m. omega (arith, sum-change n {f = f} {g = g} i m (λ j k. h j (le-step k)), h n (le-refl (suc n)) (λ q. omega arith)))
+    (eq-or-lt-of-le (le-of-suc-le-suc l))
 
 -- all terms but one are 0
 pub sum-only : (n : ℕ) {f : ℕ → ℕ} (i : ℕ) → i < n → ((j : ℕ) → j < n → (j ≡ i → ⊥) → f j ≡ 0) → sum n f ≡ f i
@@ -111,9 +109,9 @@ unfolding sum
 sum-lt zero i l h s = absurd (not-suc-le-zero l)
 sum-lt (suc n) {f} {g} i l h s =
     ⊎-elim
-      (λ e. omega (arith, sum-le n {f = f} {g = g} (downwards h), ap f e, ap g e))
-      (λ m. omega (arith, sum-lt n {f = f} {g = g} i m (downwards h) s, h n (le-refl (suc n))))
-      (eq-or-lt-of-le (le-of-suc-le-suc l))
+    (λ e. omega (arith, sum-le n {f = f} {g = g} (downwards h), ap f e, ap g e))
+    (λ m. omega (arith, sum-lt n {f = f} {g = g} i m (downwards h) s, h n (le-refl (suc n))))
+    (eq-or-lt-of-le (le-of-suc-le-suc l))
 
 -- ---- tests
 
@@ -153,13 +151,13 @@ unfolding every
 every-fails zero p e = absurd (true≢false e)
 every-fails (suc n) p e =
     ⊎-elim
-      (λ t. (n, le-refl (suc n), (rw t at e), every-at n p t))
-      (λ t. let w = every-fails n p t in (w .0, le-step (w .1), w .2, w .3))
-      (cases (every n p))
+    (λ t. (n, le-refl (suc n), rw t at e, every-at n p t))
+    (λ t. let w = every-fails n p t in (w .0, le-step (w .1), w .2, w .3))
+    (cases (every n p))
 
 -- one index at which the test fails is enough
 pub every-false : (n : ℕ) (p : ℕ → Bool) (i : ℕ) → i < n → p i ≡ false → every n p ≡ false
-every-false n p i l e = not-so (λ t. true≢false (sym (every-at n p t i l) ∙ e))
+every-false n p i l e = not-so (λ t. clash (every-at n p t i l) e)
 
 pub every-and : (n : ℕ) (p q : ℕ → Bool) → every n (λ i. p i && q i) ≡ (every n p && every n q)
 unfolding every
@@ -189,9 +187,9 @@ unfolding smallest
 smallest-le zero f i l = rw (le-zero l) (le-refl (f 0))
 smallest-le (suc n) f i l =
     ⊎-elim
-      (λ e. rw e (min-le-right (smallest n f) (f (suc n))))
-      (λ m. omega (arith, smallest-le n f i (le-of-suc-le-suc m)))
-      (eq-or-lt-of-le l)
+    (λ e. rw e (min-le-right (smallest n f) (f (suc n))))
+    (λ m. omega (arith, smallest-le n f i (le-of-suc-le-suc m)))
+    (eq-or-lt-of-le l)
 
 pub le-smallest : (n k : ℕ) (f : ℕ → ℕ) → ((i : ℕ) → i ≤ n → k ≤ f i) → k ≤ smallest n f
 unfolding smallest
@@ -205,6 +203,6 @@ smallest-at zero f = (0, le-refl 0, refl)
 smallest-at (suc n) f =
     let w = smallest-at n f in
     ⊎-elim
-      (λ t. (w .0, le-step (w .1), min-eq-left (leb-true (smallest n f) (f (suc n)) t) ∙ w .2))
-      (λ t. (suc n, le-refl (suc n), min-eq-right (le-of-lt (leb-false (smallest n f) (f (suc n)) t))))
-      (cases (leb (smallest n f) (f (suc n))))
+    (λ l. (suc n, le-refl (suc n), min-eq-right (le-of-lt l)))
+    (λ l. (w .0, le-step (w .1), min-eq-left l ∙ w .2))
+    (lt-or-le (f (suc n)) (smallest n f))

@@ -9,12 +9,12 @@ use mathlib.Core.List.{List, [], _∷_, _++_, append-assoc}
 use native.Mathlib.Nat.{add-zero, sub-self, suc-inj, le-step, le-refl, eq-or-lt-of-le}
 use native.Mathlib.Numerals.{add-one}
 use native.Mathlib.Omega.{arith}
-use lib.Dec.{eqb, ltb}
+use lib.Dec.{eqb}
 use lib.ListN.{length, getD, set, take, drop, replicate, length-set, length-drop, length-replicate, replicate-append-replicate, take-append-drop, List·getD-eq-default}
 use lib.Seq.{sets, sets-eq, length-sets, set-out, set-set, set-comm, getD-set-same, getD-set-other, take-set-le, drop-set-lt, take-append-seam, drop-at, drop-drop, length-take-le}
-use borrow.Author.Tests.{eqb-true, eqb-false, ltb-true, ltb-false}
+use borrow.Author.Tests.{eqb-true, eqb-false}
 use Rattle.masks.specs.Words.{zeroed}
-use Rattle.masks.proofs.Choice.{cases}
+use Rattle.masks.proofs.Choice.{cases, lt-or-le}
 
 -- ---- one store
 
@@ -22,17 +22,17 @@ module _ {A : Type 0} where
   pub getD-set : (l : List A) (i j : ℕ) (a d : A) → i < length l → getD (set l i a) j d ≡ cond (eqb j i) a (getD l j d)
   getD-set l i j a d h =
       ⊎-elim
-        (λ t. rw t (rw (eqb-true j i t) (getD-set-same l i a d h)))
-        (λ t. rw t (getD-set-other l i j a d (eqb-false j i t)))
-        (cases (eqb j i))
+      (λ t. rw t (rw (eqb-true j i t) (getD-set-same l i a d h)))
+      (λ t. rw t (getD-set-other l i j a d (eqb-false j i t)))
+      (cases (eqb j i))
 
   -- a store of what is read past the end asks for no bound
   pub getD-set-default : (l : List A) (i j : ℕ) (d : A) → getD (set l i d) j d ≡ cond (eqb j i) d (getD l j d)
   getD-set-default l i j d =
       ⊎-elim
-        (λ t. getD-set l i j d d (ltb-true i (length l) t))
-        (λ t. rw (set-out l i d (ltb-false i (length l) t)) (past (ltb-false i (length l) t)))
-        (cases (ltb i (length l)))
+      (getD-set l i j d d)
+      (λ h. rw (set-out l i d h) (past h))
+      (lt-or-le i (length l))
     where
       past : length l ≤ i → getD l j d ≡ cond (eqb j i) d (getD l j d)
       past h = ⊎-elim (λ t. rw t (rw (eqb-true j i t) (List·getD-eq-default l d h))) (λ t. rw t) (cases (eqb j i))
@@ -54,11 +54,11 @@ module _ {A : Type 0} where
   sets-in d i [] j z l h k = absurd (omega arith)
   sets-in d i (a ∷ vs) j z l h k =
       ⊎-elim
-        (λ e. rw (← e) (rw sub-self (sets-before (set d i a) (suc i) vs i z (le-refl (suc i)) ∙ getD-set-same d i a z (rw e k))))
-        (λ m.
-          let e : j - i ≡ suc (j - suc i) = omega arith in
-          sets-in (set d i a) (suc i) vs j z m (omega arith) (rw length-set k) ∙ rw e)
-        (eq-or-lt-of-le l)
+      (λ e. rw (← e) (rw sub-self (sets-before (set d i a) (suc i) vs i z (le-refl (suc i)) ∙ getD-set-same d i a z (rw e k))))
+      (λ m.
+      let e : j - i ≡ suc (j - suc i) = omega arith in
+      sets-in (set d i a) (suc i) vs j z m (omega arith) (rw length-set k) ∙ rw e)
+      (eq-or-lt-of-le l)
 
   pub sets-append : (d : List A) (i : ℕ) (xs ys : List A) → sets (sets d i xs) (i + length xs) ys ≡ sets d i (xs ++ ys)
   sets-append d i [] ys = rw add-zero
@@ -93,7 +93,7 @@ module _ {A : Type 0} where
       let e : length (take n (drop i d)) ≡ n = length-take-le n (drop i d) (simp length-drop (omega arith)) in
       sets-eq (take n (drop i d)) d i (rw e h)
       ∙ rw (e, ← drop-drop n i d, append-assoc (take i d) (take n (drop i d)) (drop n (drop i d)), take-append-drop n (drop i d))
-          (take-append-drop i d)
+      (take-append-drop i d)
 
   -- of two runs of one length at one place, the last stays
   pub sets-sets : (d : List A) (i : ℕ) (xs ys : List A) → length xs ≡ length ys → sets (sets d i xs) i ys ≡ sets d i ys
@@ -107,9 +107,9 @@ module _ {A : Type 0} where
 
 -- ---- a run of zeros
 
-pub zeroed-none : (d : List ℕ) (at : ℕ) → zeroed d at 0 ≡ d
+pub zeroed-empty : (d : List ℕ) (at : ℕ) → zeroed d at 0 ≡ d
 unfolding zeroed
-zeroed-none d at = refl
+zeroed-empty d at = refl
 
 pub zeroed-suc : (d : List ℕ) (at n : ℕ) → zeroed d at (suc n) ≡ set (zeroed d at n) (at + n) 0
 unfolding zeroed
