@@ -1,11 +1,11 @@
 -- Laws of sums, tests and the smallest over the indices below a count.
 -- All by induction on the count: what is assumed at every index below suc n holds below n, and at n.
 -- The laws that end in `-more` meet code, which counts by `n + 1`.
-use Prim.Native.Nat.{ℕ, zero, suc, _+_, _*_, _≤_, _<_, min}
+use Prim.Native.Nat.{ℕ, zero, suc, _+_, _-_, _*_, _≤_, _<_, min}
 use mathlib.Core.Path.{_≡_, refl, sym, ap, ap₂, _∙_, subst}
 use mathlib.Core.Logic.{_↔_, ⊎-elim}
 use mathlib.Core.Bool.{Bool, true, false, _&&_, true≢false}
-use native.Mathlib.Nat.{le-refl, le-step, le-of-lt, le-of-suc-le-suc, eq-or-lt-of-le, not-suc-le-zero, add-zero, add-suc, mul-zero, mul-add, min-le-right, min-eq-left, min-eq-right, le-min}
+use native.Mathlib.Nat.{le-refl, le-step, le-of-lt, le-of-suc-le-suc, eq-or-lt-of-le, not-suc-le-zero, add-zero, add-suc, add-sub-of-le, mul-zero, mul-add, min-le-right, min-eq-left, min-eq-right, le-min}
 use native.Mathlib.Numerals.{add-one}
 use native.Mathlib.Omega.{arith}
 use lib.Arith.{le-zero}
@@ -77,6 +77,17 @@ pub sum-split : (n m : ℕ) (f : ℕ → ℕ) → sum (n + m) f ≡ sum n f + su
 unfolding sum
 sum-split n zero f = rw (add-zero n, add-zero (sum n f))
 sum-split n (suc m) f = rw add-suc (omega (arith, sum-split n m f))
+
+-- the terms from n to m
+pub sum-upto : (n m : ℕ) (f : ℕ → ℕ) → n ≤ m → sum m f ≡ sum n f + sum (m - n) (λ i. f (n + i))
+sum-upto n m f h = ap (λ (k : ℕ). sum k f) (sym (add-sub-of-le h)) ∙ sum-split n (m - n) f
+
+pub sum-mono : (n m : ℕ) (f : ℕ → ℕ) → n ≤ m → sum n f ≤ sum m f
+sum-mono n m f h = omega (arith, sum-upto n m f h)
+
+-- nothing from n on
+pub sum-past : (n m : ℕ) (f : ℕ → ℕ) → n ≤ m → ((i : ℕ) → n ≤ i → i < m → f i ≡ 0) → sum m f ≡ sum n f
+sum-past n m f h z = omega (arith, sum-upto n m f h, sum-zero (m - n) {f = λ i. f (n + i)} (λ i l. z (n + i) (omega arith) (omega arith)))
 
 -- the first term apart
 pub sum-front : (n : ℕ) (f : ℕ → ℕ) → sum (suc n) f ≡ f 0 + sum n (λ i. f (suc i))
