@@ -1,15 +1,21 @@
--- Tests and choices between two values: the cases of a test, the parts of a conjunction, and `cond`, which chooses by a test.
--- Each law goes by the cases of its tests. Tests are explicit arguments, since each law's statement computes by them.
-use mathlib.Core.Path.{_≡_, refl, sym, ap, _∙_}
+-- Tests and choices: the cases of a test and of two numbers, the parts of a conjunction, identities of tests, and `cond`, which chooses.
+-- Each law goes by the cases of its tests. Where a statement computes by a test, the test is an explicit argument.
+use mathlib.Core.Path.{_≡_, refl, sym, _∙_}
 use mathlib.Core.Logic.{_⊎_, inl, inr, ⊎-elim}
 use mathlib.Core.Bool.{Bool, true, false, not, cond, _&&_, _||_, Bool·beq, true≢false}
-use Prim.Native.Nat.{ℕ}
-use borrow.Author.Tests.{eqb-true, eq-eqb}
-use lib.Dec.{T, eqb}
+use Prim.Native.Nat.{ℕ, _<_, _≤_}
+use borrow.Author.Tests.{ltb-true, ltb-false, eqb-true, eqb-false, eq-eqb}
+use lib.Dec.{T, eqb, ltb}
 
 pub cases : (b : Bool) → (b ≡ true) ⊎ (b ≡ false)
 cases true = inl refl
 cases false = inr refl
+
+pub lt-or-le : (a b : ℕ) → (a < b) ⊎ (b ≤ a)
+lt-or-le a b = ⊎-elim (λ t. inl (ltb-true a b t)) (λ t. inr (ltb-false a b t)) (cases (ltb a b))
+
+pub eq-or-ne : (a b : ℕ) → (a ≡ b) ⊎ (a ≡ b → ⊥)
+eq-or-ne a b = ⊎-elim (λ t. inl (eqb-true a b t)) (λ t. inr (eqb-false a b t)) (cases (eqb a b))
 
 pub not-so : {b : Bool} → (b ≡ true → ⊥) → b ≡ false
 not-so {b} h = ⊎-elim (λ t. absurd (h t)) (λ t. t) (cases b)
@@ -33,8 +39,8 @@ pub and-right : (a b : Bool) → (a && b) ≡ true → b ≡ true
 and-right true b e = e
 and-right false b e = absurd (true≢false (sym e))
 
-pub and-true : {a b : Bool} → a ≡ true → b ≡ true → (a && b) ≡ true
-and-true p q = rw (p, q)
+pub both : {a b : Bool} → a ≡ true → b ≡ true → (a && b) ≡ true
+both p q = rw (p, q)
 
 -- two conjunctions joined pairwise
 pub and-swap : (a b c d : Bool) → (a && b && (c && d)) ≡ (a && c && (b && d))
@@ -46,6 +52,9 @@ and-swap false b c d = refl
 pub or-cases : (a b : Bool) → (a || b) ≡ true → (a ≡ true) ⊎ (b ≡ true)
 or-cases true b e = inl refl
 or-cases false b e = inr e
+
+pub eqb-sym : (a b : ℕ) → eqb a b ≡ eqb b a
+eqb-sym a b = same-test (λ t. eq-eqb b a (sym (eqb-true a b t))) (λ t. eq-eqb a b (sym (eqb-true b a t)))
 
 -- ---- two expressions in tests are equal when they agree at every outcome, which computing decides: `tt` is the proof
 
@@ -84,10 +93,14 @@ pub same3 : (f g : Bool → Bool → Bool → Bool) → T (agree3 f g) → (x y 
 same3 f g t true = same2 (f true) (g true) (T-left (agree2 (f true) (g true)) (agree2 (f false) (g false)) t)
 same3 f g t false = same2 (f false) (g false) (T-right (agree2 (f true) (g true)) (agree2 (f false) (g false)) t)
 
--- ---- choices
+-- any statement of two tests, by its four cases
+pub two-tests : (P : Bool → Bool → Type 0) → P true true → P true false → P false true → P false false → (x y : Bool) → P x y
+two-tests P a b c d true true = a
+two-tests P a b c d true false = b
+two-tests P a b c d false true = c
+two-tests P a b c d false false = d
 
-pub eqb-sym : (a b : ℕ) → eqb a b ≡ eqb b a
-eqb-sym a b = same-test (λ t. eq-eqb b a (sym (eqb-true a b t))) (λ t. eq-eqb a b (sym (eqb-true b a t)))
+-- ---- choices
 
 module _ {A : Type 0} where
   pub cond-true : (b : Bool) (x y : A) → b ≡ true → cond b x y ≡ x
@@ -99,6 +112,11 @@ module _ {A : Type 0} where
   pub cond-same : (b : Bool) (x : A) → cond b x x ≡ x
   cond-same true x = refl
   cond-same false x = refl
+
+  -- what holds of each choice where it is made holds of the chosen
+  pub cond-elim : (P : A → Type 0) (b : Bool) (x y : A) → (b ≡ true → P x) → (b ≡ false → P y) → P (cond b x y)
+  cond-elim P true x y h k = h refl
+  cond-elim P false x y h k = k refl
 
   pub cond-not : (b : Bool) (x y : A) → cond (not b) x y ≡ cond b y x
   cond-not true x y = refl

@@ -1,24 +1,22 @@
 -- Laws of how many a mask has, and of its lowest element. `count` is a sum over the bits, so its laws are those of sums, a bit at a time;
 -- `trailingZeros` is read off its recursion on the digits: it is the first place that the mask has.
 -- A mask of 64 bits with nothing below 64 is empty, which gives the laws at counts 0 and 1.
-use Prim.Native.Nat.{ℕ, zero, suc, _+_, _*_, _/_, _%_, _^_, _≤_, _<_}
-use mathlib.Core.Path.{_≡_, refl, sym, ap, ap₂, _∙_, subst}
-use mathlib.Core.Logic.{_⊎_, inl, inr, ⊎-elim}
-use mathlib.Core.Bool.{Bool, true, false, not, cond, _&&_}
-use native.Mathlib.Nat.{le-refl, le-suc, le-of-suc-le-suc, not-suc-le-zero, zero-lt-suc, mul-one, mod-lt, pow-suc, div-lt-iff-lt-mul, lt-trans, lt-of-lt-of-le, eq-or-lt-of-le, eq-zero-or-pos}
+use Prim.Native.Nat.{ℕ, zero, suc, _+_, _/_, _%_, _^_, _≤_, _<_}
+use mathlib.Core.Path.{_≡_, refl, sym, ap, ap₂, _∙_}
+use mathlib.Core.Logic.{⊎-elim}
+use mathlib.Core.Bool.{true, false}
+use native.Mathlib.Nat.{le-of-suc-le-suc, not-suc-le-zero, zero-lt-suc, mod-lt, pow-suc, div-lt-iff-lt-mul, lt-trans, lt-of-lt-of-le, eq-or-lt-of-le, eq-zero-or-pos}
 use native.Mathlib.Omega.{arith}
 use lib.Arith.{lt-one}
-use lib.Bits.{bitAnd, bitOr, and-comm, or-comm}
-use lib.Count.{ones, ones-step, trailingZeros, under}
-use lib.Dec.{eqb, ltb}
-use lib.Pow.{pow-lt}
-use borrow.Author.Tests.{ltb-true, ltb-false, eqb-true, eqb-false}
+use lib.Bits.{bitAnd, bitOr, and-comm}
+use lib.Count.{ones, ones-step, ones-le, trailingZeros, under}
+use lib.Pow.{pow-mono}
 use Rattle.masks.specs.Masks.{bit, has, count, without}
 use Rattle.masks.specs.Sums.{sum}
-use Rattle.masks.proofs.Choice.{cases, clash}
+use Rattle.masks.proofs.Choice.{lt-or-le, eq-or-ne, clash}
 use Rattle.masks.proofs.Sums.{sum-ext, sum-zero, sum-none, sum-add, sum-bound, sum-front, sum-only}
-use Rattle.masks.proofs.Bits.{bit-lt, bit-has, bit-one, bit-none, bit-low, bit-up, bit-zero, has-low, has-up, has-and, has-without, has-pow-same, has-pow-other, empty-below}
-use Rattle.masks.proofs.Sets.{and-or-self, without-or-right, without-lt, without-apart, within-antisym, within-and, and-pow-apart, pow-within, has-take-other, take-put}
+use Rattle.masks.proofs.Bits.{bit-lt, bit-one, bit-none, bit-low, bit-up, bit-zero, has-low, has-up, has-pow-same, has-pow-other, bit-split, bit-or-and, empty-below}
+use Rattle.masks.proofs.Sets.{without-lt, within-antisym, within-and, and-pow-apart, pow-within, has-take-other, take-put}
 
 -- ---- the count
 
@@ -39,6 +37,13 @@ ones-sum (suc k) n l =
 pub count-ones : {m : ℕ} → m < 2 ^ 64 → count m ≡ ones m
 count-ones {m} l = count-sum m ∙ sym (ones-sum 64 m l)
 
+-- a mask below n is counted by its first n bits
+pub count-upto : (n : ℕ) {m : ℕ} → n ≤ 64 → m < 2 ^ n → count m ≡ sum n (bit m)
+count-upto n {m} h l = count-ones (lt-of-lt-of-le l (pow-mono h)) ∙ ones-sum n m l
+
+pub count-le-width : (n : ℕ) {m : ℕ} → n ≤ 64 → m < 2 ^ n → count m ≤ n
+count-le-width n {m} h l = rw (count-ones (lt-of-lt-of-le l (pow-mono h))) (ones-le n m l)
+
 pub count-zero : count 0 ≡ 0
 count-zero = count-sum 0 ∙ sum-zero 64 (λ i l. bit-zero i)
 
@@ -53,18 +58,15 @@ count-empty {m} l e = empty-below 64 l (λ v k. rw (sum-none 64 (bit m) (sym (co
 pub count-split : (m s : ℕ) → count m ≡ count (bitAnd m s) + count (without m s)
 count-split m s =
     rw (count-sum m, count-sum (bitAnd m s), count-sum (without m s), ← sum-add 64 (bit (bitAnd m s)) (bit (without m s)))
-    (sum-ext 64 (λ v l. rw (bit-has m v, bit-has (bitAnd m s) v, bit-has (without m s) v, has-and m s v, has-without m s v) (go (has m v) (has s v))))
-  where
-    go : (x y : Bool) → cond x 1 0 ≡ cond (x && y) 1 0 + cond (x && not y) 1 0
-    go true true = refl
-    go true false = refl
-    go false y = refl
+    (sum-ext 64 (λ v l. bit-split m s v))
+
+pub count-or-and : (a b : ℕ) → count (bitOr a b) + count (bitAnd a b) ≡ count a + count b
+count-or-and a b =
+    rw (count-sum (bitOr a b), count-sum (bitAnd a b), count-sum a, count-sum b, ← sum-add 64 (bit (bitOr a b)) (bit (bitAnd a b)), ← sum-add 64 (bit a) (bit b))
+    (sum-ext 64 (λ v l. bit-or-and a b v))
 
 pub count-or : (a b : ℕ) → bitAnd a b ≡ 0 → count (bitOr a b) ≡ count a + count b
-count-or a b e =
-    count-split (bitOr a b) a
-    ∙ ap₂ (λ (x y : ℕ). count x + count y) (and-comm (bitOr a b) a ∙ and-or-self a b)
-    (ap (λ (x : ℕ). without x a) (or-comm a b) ∙ without-or-right b a ∙ without-apart b a (and-comm b a ∙ e))
+count-or a b e = omega (arith, count-or-and a b, ap count e, count-zero)
 
 pub count-without : (a b : ℕ) → without b a ≡ 0 → count a ≡ count b + count (without a b)
 count-without a b e = count-split a b ∙ ap (λ (x : ℕ). count x + count (without a b)) (and-comm a b ∙ within-and b a e)
@@ -96,12 +98,12 @@ count-put m v l e = omega (arith, count-or m (2 ^ v) (and-pow-apart m v e), coun
 pub count-take : (m v : ℕ) → v < 64 → has m v ≡ true → count m ≡ suc (count (without m (2 ^ v)))
 count-take m v l e = omega (arith, count-without m (2 ^ v) (pow-within m v e), count-pow v l)
 
--- the other way: a count of 1 leaves no second element
+-- a count of 1 leaves no second element
 pub count-one-only : (m v w : ℕ) → v < 64 → w < 64 → count m ≡ 1 → has m v ≡ true → has m w ≡ true → w ≡ v
 count-one-only m v w l k e p q =
-    ⊎-elim (λ t. eqb-true w v t)
-    (λ t. absurd (omega (arith, count-take m v l p, count-take (without m (2 ^ v)) w k (has-take-other m v w (eqb-false w v t) ∙ q))))
-    (cases (eqb w v))
+    ⊎-elim (λ t. t)
+    (λ n. absurd (omega (arith, count-take m v l p, count-take (without m (2 ^ v)) w k (has-take-other m v w n ∙ q))))
+    (eq-or-ne w v)
 
 -- ---- the lowest element
 
@@ -131,13 +133,12 @@ trailing-has (suc k) m l = go (m % 2) refl (mod-lt m (zero-lt-suc 1)) (trailing-
 
 -- nothing in the mask is lower
 pub trailing-least : (k m v : ℕ) → has m v ≡ true → trailingZeros k m ≤ v
-trailing-least k m v h = ⊎-elim (λ t. absurd (clash h (trailing-under k m v (ltb-true v (trailingZeros k m) t)))) (λ t. ltb-false v (trailingZeros k m) t) (cases (ltb v (trailingZeros k m)))
+trailing-least k m v h = ⊎-elim (λ l. absurd (clash h (trailing-under k m v l))) (λ l. l) (lt-or-le v (trailingZeros k m))
 
 -- so the first place that the mask has is the lowest
 pub trailing-unique : (k m v : ℕ) → v < k → has m v ≡ true → ((w : ℕ) → w < v → has m w ≡ false) → trailingZeros k m ≡ v
 trailing-unique k m v l h low =
-    let up : trailingZeros k m ≤ v = trailing-least k m v h in
-    ⊎-elim (λ e. e) (λ s. absurd (clash (trailing-has k m (lt-trans s l)) (low (trailingZeros k m) s))) (eq-or-lt-of-le up)
+    ⊎-elim (λ e. e) (λ s. absurd (clash (trailing-has k m (lt-trans s l)) (low (trailingZeros k m) s))) (eq-or-lt-of-le (trailing-least k m v h))
 
 pub trailing-pow : (k v : ℕ) → v < k → trailingZeros k (2 ^ v) ≡ v
 trailing-pow k v l = trailing-unique k (2 ^ v) v l (has-pow-same v) (λ w s. has-pow-other v w (λ e. omega arith))
@@ -145,26 +146,21 @@ trailing-pow k v l = trailing-unique k (2 ^ v) v l (has-pow-same v) (λ w s. has
 pub trailing-lt : (k : ℕ) {m : ℕ} → m < 2 ^ k → 0 < m → trailingZeros k m < k
 trailing-lt k {m} l p =
     ⊎-elim
-    (λ t. ltb-true (trailingZeros k m) k t)
-    (λ t. absurd (omega (arith, empty-below k l (λ v s. trailing-under k m v (lt-of-lt-of-le s (ltb-false (trailingZeros k m) k t))))))
-    (cases (ltb (trailingZeros k m) k))
+    (λ h. h)
+    (λ h. absurd (omega (arith, empty-below k l (λ v s. trailing-under k m v (lt-of-lt-of-le s h)))))
+    (lt-or-le (trailingZeros k m) k)
 
--- ---- the same for masks of 64 bits
+pub trailing-in : (k : ℕ) {m : ℕ} → m < 2 ^ k → 0 < m → has m (trailingZeros k m) ≡ true
+trailing-in k {m} l p = trailing-has k m (trailing-lt k l p)
 
-pub lowest-lt : {m : ℕ} → m < 2 ^ 64 → 0 < m → trailingZeros 64 m < 64
-lowest-lt l p = trailing-lt 64 l p
-
-pub lowest-has : {m : ℕ} → m < 2 ^ 64 → 0 < m → has m (trailingZeros 64 m) ≡ true
-lowest-has {m} l p = trailing-has 64 m (trailing-lt 64 l p)
-
-pub lowest-pow : (v : ℕ) → v < 64 → trailingZeros 64 (2 ^ v) ≡ v
-lowest-pow v l = trailing-pow 64 v l
+-- a turn of a loop that takes out the lowest
+pub count-lowest : {m : ℕ} → m < 2 ^ 64 → 0 < m → count m ≡ suc (count (without m (2 ^ trailingZeros 64 m)))
+count-lowest {m} l p = count-take m (trailingZeros 64 m) (trailing-lt 64 l p) (trailing-in 64 l p)
 
 -- a mask with one element is that element
 pub count-one : {m : ℕ} → m < 2 ^ 64 → count m ≡ 1 → m ≡ 2 ^ trailingZeros 64 m
 count-one {m} l e =
     let p : 0 < m = ⊎-elim (λ z. absurd (omega (arith, ap count z, count-zero))) (λ q. q) (eq-zero-or-pos m) in
     let t : ℕ = trailingZeros 64 m in
-    let h : has m t ≡ true = lowest-has l p in
-    let rest : without m (2 ^ t) ≡ 0 = count-empty (without-lt 64 (2 ^ t) l) (omega (arith, count-take m t (lowest-lt l p) h)) in
-    sym (take-put m t h) ∙ ap (λ (x : ℕ). bitOr x (2 ^ t)) rest
+    let rest : without m (2 ^ t) ≡ 0 = count-empty (without-lt 64 (2 ^ t) l) (omega (arith, count-lowest l p)) in
+    sym (take-put m t (trailing-in 64 l p)) ∙ ap (λ (x : ℕ). bitOr x (2 ^ t)) rest

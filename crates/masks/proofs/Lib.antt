@@ -3,3 +3,4 @@ pub mod Sums
 pub mod Bits
 pub mod Sets
 pub mod Counts
+pub mod Words

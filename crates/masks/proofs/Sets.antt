@@ -1,13 +1,13 @@
 -- Identities of masks as sets: union `bitOr`, meet `bitAnd`, difference `without`; subsets and masks apart; one element put in or taken out.
 -- Each follows by `has-ext` from an identity of tests, which computing decides (`same2`, `same3`).
 -- `without a b ≡ 0` says that a is within b, and `bitAnd a b ≡ 0` that the two are apart.
-use Prim.Native.Nat.{ℕ, _+_, _*_, _^_, _≤_, _<_}
+use Prim.Native.Nat.{ℕ, _+_, _^_, _≤_, _<_}
 use mathlib.Core.Path.{_≡_, refl, sym, ap, _∙_}
-use mathlib.Core.Logic.{_↔_, _⊎_, inl, inr, ⊎-elim}
+use mathlib.Core.Logic.{_↔_, ⊎-elim}
 use mathlib.Core.Bool.{Bool, true, false, not, _&&_, _||_, and-true, and-false, or-true, or-false}
 use native.Mathlib.Nat.{lt-of-le-of-lt}
 use native.Mathlib.Omega.{arith}
-use lib.Bits.{bitAnd, bitOr, bitXor, and-le-l, and-le-r, or-add-and, or-lt, and-comm, or-comm, xor-add-and}
+use lib.Bits.{bitAnd, bitOr, and-le-l, and-le-r, or-add-and, or-lt, and-comm, or-comm, xor-add-and}
 use lib.Dec.{eqb, ltb}
 use lib.Pow.{pow-pos, pow-lt}
 use borrow.Author.Tests.{eqb-true, eqb-false, eq-eqb, lt-ltb, le-ltb, ltb-true, ne-eqb}
@@ -22,6 +22,12 @@ or-assoc a b c = has-ext (λ v. simp has-or (same3 (λ x y z. x || y || z) (λ x
 
 pub and-assoc : (a b c : ℕ) → bitAnd (bitAnd a b) c ≡ bitAnd a (bitAnd b c)
 and-assoc a b c = has-ext (λ v. simp has-and (same3 (λ x y z. x && y && z) (λ x y z. x && (y && z)) tt (has a v) (has b v) (has c v)))
+
+pub or-swap : (a b c : ℕ) → bitOr (bitOr a b) c ≡ bitOr (bitOr a c) b
+or-swap a b c = has-ext (λ v. simp has-or (same3 (λ x y z. x || y || z) (λ x y z. x || z || y) tt (has a v) (has b v) (has c v)))
+
+pub or-again : (a b : ℕ) → bitOr (bitOr a b) b ≡ bitOr a b
+or-again a b = has-ext (λ v. simp has-or (same2 (λ x y. x || y || y) (λ x y. x || y) tt (has a v) (has b v)))
 
 pub and-or : (a b c : ℕ) → bitAnd a (bitOr b c) ≡ bitOr (bitAnd a b) (bitAnd a c)
 and-or a b c = has-ext (λ v. simp (has-and, has-or) (same3 (λ x y z. x && (y || z)) (λ x y z. x && y || x && z) tt (has a v) (has b v) (has c v)))
@@ -118,6 +124,9 @@ within-and a b e = omega (arith, without-add a b)
 pub within-or : (a b : ℕ) → without a b ≡ 0 → bitOr a b ≡ b
 within-or a b e = sym (or-without-right a b) ∙ rw e
 
+pub within-le : (a b : ℕ) → without a b ≡ 0 → a ≤ b
+within-le a b e = omega (arith, within-and a b e, and-le-r a b)
+
 pub without-within : (a b : ℕ) → without (without a b) a ≡ 0
 without-within a b = within-of (without a b) a (λ v h. and-left (has a v) (not (has b v)) (sym (has-without a b v) ∙ h))
 
@@ -132,6 +141,10 @@ without-apart a b e = omega (arith, without-add a b)
 
 pub apart-without : (a b : ℕ) → bitAnd (without a b) b ≡ 0
 apart-without a b = has-ext (λ v. simp (has-without, has-and, has-zero) (same2 (λ x y. x && not y && y) (λ x y. false) tt (has a v) (has b v)))
+
+-- putting b in and taking c out, where they are apart, may come in either order
+pub or-without-apart : (a b c : ℕ) → bitAnd b c ≡ 0 → without (bitOr a b) c ≡ bitOr (without a c) b
+or-without-apart a b c e = or-without a b c ∙ ap (bitOr (without a c)) (without-apart b c e)
 
 -- a union is empty only where both are
 pub or-empty : (a b : ℕ) → bitOr a b ≡ 0 → (a ≡ 0) × (b ≡ 0)

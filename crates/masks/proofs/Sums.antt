@@ -1,18 +1,16 @@
 -- Laws of sums, tests and the smallest over the indices below a count.
 -- All by induction on the count: what is assumed at every index below suc n holds below n, and at n.
 -- The laws that end in `-more` meet code, which counts by `n + 1`.
-use Prim.Native.Nat.{ℕ, zero, suc, _+_, _*_, _≤_, _<_, min}
+use Prim.Native.Nat.{ℕ, zero, suc, _+_, _-_, _*_, _≤_, _<_, min}
 use mathlib.Core.Path.{_≡_, refl, sym, ap, ap₂, _∙_, subst}
-use mathlib.Core.Logic.{_↔_, _⊎_, inl, inr, ⊎-elim}
+use mathlib.Core.Logic.{_↔_, ⊎-elim}
 use mathlib.Core.Bool.{Bool, true, false, _&&_, true≢false}
-use native.Mathlib.Nat.{le-refl, le-step, le-of-lt, le-of-suc-le-suc, eq-or-lt-of-le, not-suc-le-zero, add-zero, add-suc, mul-zero, mul-add, min-le-right, min-eq-left, min-eq-right, le-min}
+use native.Mathlib.Nat.{le-refl, le-step, le-of-lt, le-of-suc-le-suc, eq-or-lt-of-le, not-suc-le-zero, add-zero, add-suc, add-sub-of-le, mul-zero, mul-add, min-le-right, min-eq-left, min-eq-right, le-min}
 use native.Mathlib.Numerals.{add-one}
 use native.Mathlib.Omega.{arith}
-use borrow.Author.Tests.{leb-true, leb-false}
 use lib.Arith.{le-zero}
-use lib.Dec.{leb}
 use Rattle.masks.specs.Sums.{sum, every, smallest}
-use Rattle.masks.proofs.Choice.{cases, not-so, and-left, and-right, and-swap}
+use Rattle.masks.proofs.Choice.{cases, lt-or-le, not-so, clash, and-left, and-right, and-swap}
 
 -- ---- what holds below suc n: below n, and at n
 
@@ -79,6 +77,17 @@ pub sum-split : (n m : ℕ) (f : ℕ → ℕ) → sum (n + m) f ≡ sum n f + su
 unfolding sum
 sum-split n zero f = rw (add-zero n, add-zero (sum n f))
 sum-split n (suc m) f = rw add-suc (omega (arith, sum-split n m f))
+
+-- the terms from n to m
+pub sum-upto : (n m : ℕ) (f : ℕ → ℕ) → n ≤ m → sum m f ≡ sum n f + sum (m - n) (λ i. f (n + i))
+sum-upto n m f h = ap (λ (k : ℕ). sum k f) (sym (add-sub-of-le h)) ∙ sum-split n (m - n) f
+
+pub sum-mono : (n m : ℕ) (f : ℕ → ℕ) → n ≤ m → sum n f ≤ sum m f
+sum-mono n m f h = omega (arith, sum-upto n m f h)
+
+-- nothing from n on
+pub sum-past : (n m : ℕ) (f : ℕ → ℕ) → n ≤ m → ((i : ℕ) → n ≤ i → i < m → f i ≡ 0) → sum m f ≡ sum n f
+sum-past n m f h z = omega (arith, sum-upto n m f h, sum-zero (m - n) {f = λ i. f (n + i)} (λ i l. z (n + i) (omega arith) (omega arith)))
 
 -- the first term apart
 pub sum-front : (n : ℕ) (f : ℕ → ℕ) → sum (suc n) f ≡ f 0 + sum n (λ i. f (suc i))
@@ -153,13 +162,13 @@ unfolding every
 every-fails zero p e = absurd (true≢false e)
 every-fails (suc n) p e =
     ⊎-elim
-    (λ t. (n, le-refl (suc n), (rw t at e), every-at n p t))
+    (λ t. (n, le-refl (suc n), rw t at e, every-at n p t))
     (λ t. let w = every-fails n p t in (w .0, le-step (w .1), w .2, w .3))
     (cases (every n p))
 
 -- one index at which the test fails is enough
 pub every-false : (n : ℕ) (p : ℕ → Bool) (i : ℕ) → i < n → p i ≡ false → every n p ≡ false
-every-false n p i l e = not-so (λ t. true≢false (sym (every-at n p t i l) ∙ e))
+every-false n p i l e = not-so (λ t. clash (every-at n p t i l) e)
 
 pub every-and : (n : ℕ) (p q : ℕ → Bool) → every n (λ i. p i && q i) ≡ (every n p && every n q)
 unfolding every
@@ -205,6 +214,6 @@ smallest-at zero f = (0, le-refl 0, refl)
 smallest-at (suc n) f =
     let w = smallest-at n f in
     ⊎-elim
-    (λ t. (w .0, le-step (w .1), min-eq-left (leb-true (smallest n f) (f (suc n)) t) ∙ w .2))
-    (λ t. (suc n, le-refl (suc n), min-eq-right (le-of-lt (leb-false (smallest n f) (f (suc n)) t))))
-    (cases (leb (smallest n f) (f (suc n))))
+    (λ l. (suc n, le-refl (suc n), min-eq-right (le-of-lt l)))
+    (λ l. (w .0, le-step (w .1), min-eq-left l ∙ w .2))
+    (lt-or-le (f (suc n)) (smallest n f))
