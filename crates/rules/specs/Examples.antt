@@ -44,21 +44,21 @@ allRight (e ∷ es) = sameNumbers (e .gives) (e .says) && allRight es
 abbrev pub x : ℕ → Lits
 x v = litsOf (pos v)
 
-abbrev not-x : ℕ → Lits
+abbrev pub not-x : ℕ → Lits
 not-x v = litsOf (negsuc (v - 1))
 
-abbrev all : List Lits → Lits
+abbrev pub all : List Lits → Lits
 all [] = noLits
 all (l ∷ ls) = together l (all ls)
 
-abbrev row : List Lits → ℕ → List ℕ
+abbrev pub row : List Lits → ℕ → List ℕ
 row ls w = rowWordsOf (record { lits = all ls; weight = w })
 
 -- a desk of words that hold 9, so that what load leaves or zeroes is seen
-abbrev lent : ℕ → List ℕ
+abbrev pub lent : ℕ → List ℕ
 lent c = replicate (deskWords c + 2) 9
 
-abbrev desk : ℕ → List ℕ → ℕ → List ℕ
+abbrev pub desk : ℕ → List ℕ → ℕ → List ℕ
 desk n table c = loadStep n table c (lent c)
 
 -- an answer that is a number and a place, or nothing
