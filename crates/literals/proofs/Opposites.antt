@@ -1,17 +1,18 @@
 -- What a literal is, by its size, and what its opposite is: the same variable and the other sign.
 -- A number and its negation have one size, so one is a literal where the other is, and all follows by the cases of the sign.
-use Prim.Native.Nat.{ℕ, zero, suc, _-_, _≤_, _<_, _^_}
+use Prim.Native.Nat.{zero, suc, _≤_}
 use mathlib.Core.Path.{_≡_, refl, sym, ap, _∙_}
-use mathlib.Core.Bool.{Bool, true, false, not, cond, false≢true, and-eq-true-iff}
+use mathlib.Core.Bool.{Bool, true, false, not, false≢true, and-eq-true-iff}
+use mathlib.Core.Logic.{⊎-elim}
 use native.Mathlib.Omega.{arith}
-use borrow.Author.Tests.{ltb-false, leb-true, le-leb, lt-ltb, ne-eqb}
+use borrow.Author.Tests.{ltb-false, leb-true, le-leb, lt-ltb}
 use lib.Dec.{leb}
 use lib.IntN.{ℤ, pos, negsuc, negℤ, natAbs, negℤ-negℤ}
 use lib.Signed.{mag}
 use mir.Syntax.{w64}
 use mir.Val.{SFits}
-use Rattle.masks.specs.Masks.{single}
-use Rattle.literals.specs.Literal.{mostVariables, size, isPositive, isLiteral, opposite, bitOf}
+use Rattle.masks.proofs.Choice.{cases}
+use Rattle.literals.specs.Literal.{mostVariables, size, isPositive, isLiteral, opposite}
 
 -- ---- what a literal is
 
@@ -51,11 +52,7 @@ literal-neg z = rw (size-neg z)
 -- what holds of the negation of a literal, and of a number that is none, holds of the opposite
 by-opposite : (z : ℤ) (P : ℤ → Type 0) → (isLiteral z ≡ true → P (negℤ z)) → (isLiteral z ≡ false → P z) → P (opposite z)
 unfolding opposite
-by-opposite z P p q = go (isLiteral z) p q
-  where
-    go : (b : Bool) → (b ≡ true → P (negℤ z)) → (b ≡ false → P z) → P (cond b (negℤ z) z)
-    go true p q = p refl
-    go false p q = q refl
+by-opposite z P p q = ⊎-elim (λ t. rw t (p t)) (λ t. rw t (q t)) (cases (isLiteral z))
 
 pub size-opposite : (z : ℤ) → size (opposite z) ≡ size z
 unfolding size
@@ -104,15 +101,3 @@ mag-neg (negsuc n) = omega arith
 pub opposite-fits : (z : ℤ) → isLiteral z ≡ true → SFits w64 (negℤ z)
 unfolding size
 opposite-fits z h = record { sfits = omega (arith, mag-neg z, literal-sized z h .most) }
-
--- ---- the bit
-
-pub bit-opposite : (z : ℤ) → bitOf (opposite z) ≡ bitOf z
-unfolding bitOf
-bit-opposite z = rw (size-opposite z)
-
-pub bit-literal : (z : ℤ) → isLiteral z ≡ true → bitOf z ≡ 2 ^ (size z - 1)
-unfolding bitOf single
-bit-literal z h =
-    let s = literal-sized z h in
-    rw (ne-eqb (size z) 0 (λ e. omega (arith, s .some)), lt-ltb (size z - 1) 64 (omega (arith, s .some, s .most)))

@@ -1,8 +1,8 @@
 -- A signed value is held as 64 bits. Read as signed, they are the number again (`back`), so what the code makes of values is what the definitions make of numbers.
 -- A negative number's sign is turned one step nearer to 0: the least number of the type has no opposite there, and has a size all the same.
-use Prim.Native.Nat.{ℕ, zero, suc, _+_, _<_, _^_}
+use Prim.Native.Nat.{ℕ, zero, suc, _+_}
 use mathlib.Core.Path.{_≡_, refl, sym, ap, _∙_, subst}
-use mathlib.Core.Bool.{Bool, true, false, false≢true}
+use mathlib.Core.Bool.{true, false, false≢true}
 use native.Mathlib.Omega.{arith}
 use borrow.Author.Tests.{leb-false}
 use lib.Dec.{T}

@@ -2,15 +2,21 @@
 -- A literal's own set has one mask empty, and its opposite's set is the same with the masks changed over.
 use Prim.Native.Nat.{ℕ, _<_, _^_}
 use mathlib.Core.Path.{_≡_, refl, sym, ap, _∙_}
-use mathlib.Core.Bool.{Bool, true, false, not, cond, and-comm, and-eq-true-iff}
-use borrow.Author.Tests.{eqb-true, eq-eqb}
-use lib.Bits.{bitOr, or-comm, or-zero-l, or-zero-r, or-self}
-use lib.Dec.{eqb}
+use mathlib.Core.Bool.{Bool, true, false, cond, and-comm, and-eq-true-iff}
+use mathlib.Core.Logic.{⊎-elim}
+use native.Mathlib.Omega.{arith}
+use borrow.Author.Tests.{eqb-true, eq-eqb, lt-ltb}
+use lib.Bits.{bitOr, or-comm, or-zero-l, or-zero-r, or-self, or-lt}
+use lib.Dec.{eqb, ltb}
 use lib.IntN.{ℤ}
+use lib.Pow.{pow-pos}
+use Rattle.masks.proofs.Choice.{cases, not-so, cond-not}
+use Rattle.masks.proofs.Sets.{or-assoc, without-or, or-without, without-self, without-zero, zero-without, without-again, without-lt}
 use Rattle.literals.specs.declared.Lits.{Lits}
 use Rattle.literals.specs.Literal.{isPositive, isLiteral, opposite, bitOf, litsOf}
 use Rattle.literals.specs.Lits.{noLits, negatedLits, together, less, variablesOf, isEmpty, sameLits}
-use Rattle.literals.proofs.Opposites.{sign-opposite, bit-opposite}
+use Rattle.literals.proofs.Opposites.{sign-opposite, by-sign-and-size}
+use Rattle.literals.proofs.OneBit.{bit-below, bit-some, bit-opposite, bit-size}
 
 -- ---- sets are equal where their masks are
 
@@ -85,11 +91,9 @@ lits-negative z h = rw h
 
 pub lits-opposite : (z : ℤ) → isLiteral z ≡ true → litsOf (opposite z) ≡ negatedLits (litsOf z)
 unfolding litsOf negatedLits
-lits-opposite z h = rw (sign-opposite z h, bit-opposite z) (go (isPositive z) (bitOf z))
-  where
-    go : (b : Bool) (m : ℕ) → _≡_ {A = Lits} (record { positive = cond (not b) m 0; negative = cond (not b) 0 m }) (record { positive = cond b 0 m; negative = cond b m 0 })
-    go true m = refl
-    go false m = refl
+lits-opposite z h =
+    rw (sign-opposite z h, bit-opposite z)
+    (lits-ext _ _ (cond-not (isPositive z) (bitOf z) 0) (cond-not (isPositive z) 0 (bitOf z)))
 
 pub variables-lits : (z : ℤ) → variablesOf (litsOf z) ≡ bitOf z
 unfolding litsOf variablesOf
@@ -98,6 +102,28 @@ variables-lits z = go (isPositive z) (bitOf z)
     go : (b : Bool) (m : ℕ) → bitOr (cond b m 0) (cond b 0 m) ≡ m
     go true m = or-zero-r m
     go false m = or-zero-l m
+
+-- whether its positive mask holds anything is a literal's sign
+positive-sign : (z : ℤ) → isLiteral z ≡ true → isPositive z ≡ ltb 0 (litsOf z .positive)
+positive-sign z h =
+    let of : Lits → Bool = λ l. ltb 0 (l .positive) in
+    ⊎-elim
+    (λ t. t ∙ sym (lt-ltb 0 (bitOf z) (bit-some z h)) ∙ ap of (sym (lits-positive z t)))
+    (λ t. t ∙ ap of (sym (lits-negative z t)))
+    (cases (isPositive z))
+
+-- a literal is told by its set
+pub lits-literal : (a b : ℤ) → isLiteral a ≡ true → isLiteral b ≡ true → litsOf a ≡ litsOf b → a ≡ b
+lits-literal a b ha hb e =
+    let sign : isPositive a ≡ isPositive b =
+    positive-sign a ha ∙ ap (λ (l : Lits). ltb 0 (l .positive)) e ∙ sym (positive-sign b hb) in
+    let bit : bitOf a ≡ bitOf b = sym (variables-lits a) ∙ ap variablesOf e ∙ variables-lits b in
+    by-sign-and-size a b sign (bit-size a b ha hb bit)
+
+pub lits-some : (z : ℤ) → isLiteral z ≡ true → isEmpty (litsOf z) ≡ false
+unfolding noLits variablesOf
+lits-some z h =
+    not-so (λ t. let e : bitOf z ≡ 0 = sym (variables-lits z) ∙ ap variablesOf (empty-none (litsOf z) t) in omega (arith, bit-some z h))
 
 -- ---- together
 
@@ -116,3 +142,75 @@ together-comm a b = lits-ext _ _ (or-comm (a .positive) (b .positive)) (or-comm 
 pub together-self : (l : Lits) → together l l ≡ l
 unfolding together
 together-self l = lits-ext _ l (or-self (l .positive)) (or-self (l .negative))
+
+pub together-assoc : (a b c : Lits) → together (together a b) c ≡ together a (together b c)
+unfolding together
+together-assoc a b c =
+    lits-ext _ _ (or-assoc (a .positive) (b .positive) (c .positive)) (or-assoc (a .negative) (b .negative) (c .negative))
+
+-- ---- less
+
+pub less-none : (l : Lits) → less l noLits ≡ l
+unfolding less noLits
+less-none l = lits-ext _ l (without-zero (l .positive)) (without-zero (l .negative))
+
+pub none-less : (l : Lits) → less noLits l ≡ noLits
+unfolding less noLits
+none-less l = lits-ext _ _ (zero-without (l .positive)) (zero-without (l .negative))
+
+pub less-self : (l : Lits) → less l l ≡ noLits
+unfolding less noLits
+less-self l = lits-ext _ _ (without-self (l .positive)) (without-self (l .negative))
+
+pub less-again : (a b : Lits) → less (less a b) b ≡ less a b
+unfolding less
+less-again a b =
+    lits-ext _ _ (without-again (a .positive) (b .positive)) (without-again (a .negative) (b .negative))
+
+pub less-together : (a b c : Lits) → less a (together b c) ≡ less (less a b) c
+unfolding less together
+less-together a b c =
+    lits-ext _ _
+    (without-or (a .positive) (b .positive) (c .positive))
+    (without-or (a .negative) (b .negative) (c .negative))
+
+pub together-less : (a b c : Lits) → less (together a b) c ≡ together (less a c) (less b c)
+unfolding less together
+together-less a b c =
+    lits-ext _ _
+    (or-without (a .positive) (b .positive) (c .positive))
+    (or-without (a .negative) (b .negative) (c .negative))
+
+-- ---- both masks have 64 bits, as those of the struct do
+
+pub record Held (l : Lits) : Type 0 where
+  pub positives : l .positive < 2 ^ 64
+  pub negatives : l .negative < 2 ^ 64
+
+pub none-held : Held noLits
+unfolding noLits
+none-held = record { positives = pow-pos 64; negatives = pow-pos 64 }
+
+pub lits-held : (z : ℤ) → Held (litsOf z)
+lits-held z =
+    ⊎-elim
+    (λ t. rw (lits-positive z t) (record { positives = bit-below z; negatives = pow-pos 64 }))
+    (λ t. rw (lits-negative z t) (record { positives = pow-pos 64; negatives = bit-below z }))
+    (cases (isPositive z))
+
+pub negated-held : {l : Lits} → Held l → Held (negatedLits l)
+unfolding negatedLits
+negated-held h = record { positives = h .negatives; negatives = h .positives }
+
+pub together-held : {a b : Lits} → Held a → Held b → Held (together a b)
+unfolding together
+together-held {a} {b} h k =
+    record {
+      positives = or-lt 64 (a .positive) (b .positive) (h .positives) (k .positives);
+      negatives = or-lt 64 (a .negative) (b .negative) (h .negatives) (k .negatives);
+    }
+
+pub less-held : {a : Lits} (b : Lits) → Held a → Held (less a b)
+unfolding less
+less-held b h =
+    record { positives = without-lt 64 (b .positive) (h .positives); negatives = without-lt 64 (b .negative) (h .negatives) }

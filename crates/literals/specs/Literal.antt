@@ -1,4 +1,4 @@
--- A literal is a signed number from -64 to 64, never 0. Its size is its variable, its sign says which way.
+-- A literal is a signed number, never 0, up to `mostVariables` either way. Its size is its variable, and its negation is the other sign.
 -- All definitions are total: a number that is no literal has a size and a sign too, and is its own opposite.
 use Prim.Native.Nat.{ℕ, _-_}
 use mathlib.Core.Bool.{Bool, cond, _&&_}
@@ -6,7 +6,6 @@ use lib.Dec.{eqb, leb}
 use lib.IntN.{ℤ, pos, negℤ, natAbs}
 use lib.Signed.{ltZ}
 use Rattle.masks.specs.Masks.{single}
-use Rattle.literals.specs.declared.Literal.{Literal}
 use Rattle.literals.specs.declared.Made.{Made}
 use Rattle.literals.specs.declared.Made.the-variants.{Fine, Refused}
 use Rattle.literals.specs.declared.Lits.{Lits}

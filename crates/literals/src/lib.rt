@@ -2,7 +2,7 @@
 // is no literal can be held, and each definition says what becomes of it.
 ghost use mathlib.Core.Path.{_≡_};
 ghost use Rattle.literals.specs.Literal.{mostVariables, size, isPositive, isLiteral, opposite, bitOf, litsOf, made};
-ghost use Rattle.literals.specs.Lits.{noLits, negatedLits, together, less, variablesOf, isEmpty, sameLits};
+ghost use Rattle.literals.specs.Lits.{noLits, negatedLits, together, less, variablesOf, isEmpty, sameLits, isOne};
 
 pub struct Literal {
     pub value: i64,
@@ -30,6 +30,7 @@ impl Literal {
         Literal::MOST
     }
 
+    // Any number may be offered; what is no literal is refused.
     pub fn new(value: i64) -> Made
         ensures { λ r. ⌜ r ≡ made value ⌝ }
     {
@@ -48,7 +49,7 @@ impl Literal {
         (1 <= n) & (n <= Literal::MOST)
     }
 
-    // The variable. The least number of the type has a size too: one is taken off before the sign is turned.
+    // The variable. The sign is turned one step nearer to 0, so that the least number of the type has a size too.
     pub fn size(self) -> u64
         ensures { λ r. ⌜ r ≡ size (self .value) ⌝ }
     {
@@ -69,7 +70,7 @@ impl Literal {
         0 < v
     }
 
-    // The opposite literal.
+    // The opposite literal. What is no literal stays: the least number of the type has no negation there.
     pub fn negated(self) -> Literal
         ensures { λ r. ⌜ r .value ≡ opposite (self .value) ⌝ }
     {
@@ -168,5 +169,14 @@ impl Lits {
         ensures { λ r. ⌜ r ≡ sameLits self other ⌝ }
     {
         (self.positive == other.positive) & (self.negative == other.negative)
+    }
+
+    // Whether it holds just one literal.
+    pub fn is_one(self) -> bool
+        ensures { λ r. ⌜ r ≡ isOne self ⌝ }
+    {
+        let positive = masks::count(self.positive);
+        let negative = masks::count(self.negative);
+        positive + negative == 1
     }
 }
