@@ -36,7 +36,7 @@ counted d a b =
       loadedFits = leb-true _ _ (and-left (leb (loaded d) mostRows) _ b1);
       loadedInUse = leb-true _ _ (and-left (leb (loaded d) (inUse d)) _ b2);
       inUseFits = leb-true _ _ (and-left (leb (inUse d) (capacity d)) _ b3);
-      standingFits = leb-true _ _ (and-right (leb (inUse d) (capacity d)) _ b3)
+      standingFits = leb-true _ _ (and-right (leb (inUse d) (capacity d)) _ b3);
     }
 
 -- (d), from the sum that is held to its limit as it grows

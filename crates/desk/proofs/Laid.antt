@@ -27,12 +27,12 @@ three-runs d h t z room =
     let n : length (h ++ t) ≡ length h + length t = length-append h t in
     let m : length ((h ++ t) ++ z) ≡ length h + length t + length z = length-append (h ++ t) z ∙ ap (λ (k : ℕ). k + length z) n in
     let one : sets (sets d 0 h) (length h) t ≡ sets d 0 (h ++ t) =
-        ap (λ (k : ℕ). sets (sets d 0 h) k t) (sym (zero-add (length h))) ∙ sets-append d 0 h t in
+    ap (λ (k : ℕ). sets (sets d 0 h) k t) (sym (zero-add (length h))) ∙ sets-append d 0 h t in
     let two : sets (sets d 0 (h ++ t)) (length h + length t) z ≡ sets d 0 ((h ++ t) ++ z) =
-        ap (λ (k : ℕ). sets (sets d 0 (h ++ t)) k z) (sym (zero-add (length (h ++ t)) ∙ n)) ∙ sets-append d 0 (h ++ t) z in
+    ap (λ (k : ℕ). sets (sets d 0 (h ++ t)) k z) (sym (zero-add (length (h ++ t)) ∙ n)) ∙ sets-append d 0 (h ++ t) z in
     let whole = sets-eq ((h ++ t) ++ z) d 0 (omega (arith, m)) in
     let past : drop (0 + length ((h ++ t) ++ z)) d ≡ drop (length h + length t + length z) d =
-        ap (λ (k : ℕ). drop k d) (zero-add (length ((h ++ t) ++ z)) ∙ m) in
+    ap (λ (k : ℕ). drop k d) (zero-add (length ((h ++ t) ++ z)) ∙ m) in
     ap (λ (e : List ℕ). sets e (length h + length t) z) one ∙ two ∙ whole ∙ ap (λ (r : List ℕ). ((h ++ t) ++ z) ++ r) past ∙ simp append-assoc
 
 -- the three runs of load

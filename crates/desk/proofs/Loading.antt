@@ -36,7 +36,8 @@ load-room n t c d e =
     let e3 = refuse-fine badC BadCapacity room (e2 .1) in
     let e4 = refuse-fine (ltb (length d) (deskWords c)) NoRoom last (e3 .1) in
     let few = ltb-false c (rowCount t) (or-left (ltb c (rowCount t)) (ltb mostCapacity c) (e3 .0)) in
-    let whole = whole-rows t (e2 .0) in
-    (ltb-false mostCapacity c (or-right (ltb c (rowCount t)) (ltb mostCapacity c) (e3 .0)),
-    omega arith,
-    ltb-false (length d) (deskWords c) (e4 .0))
+    let whole = whole-rows t (e2 .0) in (
+      ltb-false mostCapacity c (or-right (ltb c (rowCount t)) (ltb mostCapacity c) (e3 .0)),
+      omega arith,
+      ltb-false (length d) (deskWords c) (e4 .0),
+    )

@@ -9,11 +9,11 @@ ghost use Rattle.rules.specs.Desk.{headWords, rowOn, reaches, inLimits, masksNe
 use crate::inner::row_on;
 use crate::judge::sum_over;
 use literals::Literal;
-use rules::bad_lits;
-use rules::word;
 use rules::Desk;
 use rules::Entry;
 use rules::Row;
+use rules::bad_lits;
+use rules::word;
 
 // Whether a desk in these words is well formed.
 pub fn well_formed(desk: &[u64]) -> bool
@@ -53,7 +53,8 @@ fn in_limits(desk: &[u64]) -> bool
     let h = Desk::of(desk);
     (h.variables <= Literal::MOST)
         & ((h.loaded <= Row::MOST as u64)
-            & ((h.loaded <= h.in_use) & ((h.in_use <= h.capacity) & (h.standing <= Desk::MOST_STEPS))))
+            & ((h.loaded <= h.in_use)
+                & ((h.in_use <= h.capacity) & (h.standing <= Desk::MOST_STEPS))))
 }
 
 // (c) No row in use has a variable both ways or above the count.

@@ -41,9 +41,10 @@ unfolding loadDesk
 returns-2 c =
     let a = c .before .before .before .before .before .before .before .before .before .before .args in
     let why = c .before .before .before .before .before .before .load-why .ensures in
-    let e = c .before .before .before .before .enum-told .given .1 in
-    (sym (sym why ∙ e),
-    c .before .before .lay .ensures ∙ sym (words-fine (loadWhy (a .variables) (a .table .now) (a .capacity) (a .desk .now)) (loadStep (a .variables) (a .table .now) (a .capacity) (a .desk .now)) (a .desk .now) (sym why ∙ e)))
+    let e = c .before .before .before .before .enum-told .given .1 in (
+      sym (sym why ∙ e),
+      c .before .before .lay .ensures ∙ sym (words-fine (loadWhy (a .variables) (a .table .now) (a .capacity) (a .desk .now)) (loadStep (a .variables) (a .table .now) (a .capacity) (a .desk .now)) (a .desk .now) (sym why ∙ e)),
+    )
 
 pub load-spec : {M : Type 1} → statement M
 load-spec =
