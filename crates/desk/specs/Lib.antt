@@ -1,2 +1,3 @@
 pub mod Judge
 pub mod Lay
+pub mod Room
