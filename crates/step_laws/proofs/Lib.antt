@@ -1,0 +1,15 @@
+pub mod Formed
+pub mod Stores
+pub mod Verdicts
+pub mod Entries
+pub mod Weights
+pub mod Decisions
+pub mod Rewritings
+pub mod Undone
+pub mod Balance
+pub mod Readings
+pub mod Sounds
+pub mod Linked
+pub mod Merged
+pub mod Closing
+pub mod ByKind
