@@ -148,15 +148,18 @@ module _ (n : ℕ) (few : n ≤ 64) (f : ℕ → Lits) where
       let long : length (noLits ∷ whole) ≡ k + 3 = ap suc (length-append (compensating f k) (r1 ∷ r2 ∷ [])) ∙ omega (arith, compensating-count n few f k) in
       let kept = stored-count (noLits ∷ whole) in
       record {
-        sound = rw (fork-gives k) (none-sound n, each-append (Sound n) (compensating f k) (r1 ∷ r2 ∷ []) (compensating-sound n few f k before linked)
-        (together-sound sa (negated-sound sbc) (rw (variables-negated (together b c)) a-bc), (together-sound (negated-sound sa) sbc (rw (variables-negated a) a-bc), tt)));
+        sound = rw (fork-gives k) (
+          none-sound n,
+          each-append (Sound n) (compensating f k) (r1 ∷ r2 ∷ []) (compensating-sound n few f k before linked)
+              (together-sound sa (negated-sound sbc) (rw (variables-negated (together b c)) a-bc), (together-sound (negated-sound sa) sbc (rw (variables-negated a) a-bc), tt)),
+        );
         fewer = rw (fork-gives k) (omega arith);
         adds = inl (rw (fork-gives k) (omega arith));
         owed = rw (fork-gives k) none-first;
         balanced = λ reading.
-        rw (fork-gives k)
-        (fork-closes f k reading a b c (telescoped n few f reading k before linked)
-        (one-alone a (sound-held few sa) one-a) (one-alone b (sound-held few sb) (s1 .second)) (one-alone c (sound-held few sc) (s2 .second)) (s1 .whole) (s2 .whole) (s3 .whole));
+            rw (fork-gives k)
+            (fork-closes f k reading a b c (telescoped n few f reading k before linked)
+            (one-alone a (sound-held few sa) one-a) (one-alone b (sound-held few sb) (s1 .second)) (one-alone c (sound-held few sc) (s2 .second)) (s1 .whole) (s2 .whole) (s3 .whole));
       }
     where
       branch : (k i : ℕ) → Sound n (f (k + i)) → Sound n (forked f k i)
@@ -181,7 +184,7 @@ module _ (n : ℕ) (few : n ≤ 64) (f : ℕ → Lits) where
         adds = ⊎-elim (λ q. inr (refl, rw q)) (λ q. inl (rw q)) (cases (isEmpty rest));
         owed = ⊎-elim (λ q. rw q) (λ q. rw q) (cases (isEmpty rest));
         balanced = λ reading.
-        omega (arith, sum-suc 1 (λ i. missed reading (f i)), sum-suc 0 (λ i. missed reading (f i)), sum-empty (λ i. missed reading (f i)), merged (s 0 (omega arith)) (s 1 (omega arith)) t reading there alike, ap (λ (m : ℕ). missed reading (apartFrom m (f 0))) is);
+            omega (arith, sum-suc 1 (λ i. missed reading (f i)), sum-suc 0 (λ i. missed reading (f i)), sum-empty (λ i. missed reading (f i)), merged (s 0 (omega arith)) (s 1 (omega arith)) t reading there alike, ap (λ (m : ℕ). missed reading (apartFrom m (f 0))) is);
       }
 
   -- ---- every kind

@@ -77,9 +77,19 @@ module _ (f : ℕ → Lits) (k reading : ℕ) where
         ≡ 1 + missed reading (together a (negatedLits (together b c))) + missed reading (together (negatedLits a) (together b c))
     unfolding missed
     fork-missed p q r =
-        rw (negated-together b c, holds-together reading (negatedLits a) b, holds-together reading (negatedLits a) c, holds-together reading (negatedLits b) (negatedLits c),
-        holds-together reading a (together (negatedLits b) (negatedLits c)), holds-together reading (negatedLits b) (negatedLits c), holds-together reading (negatedLits a) (together b c), holds-together reading b c,
-        holds-negated reading p, holds-negated reading q, holds-negated reading r)
+        rw (
+          negated-together b c,
+          holds-together reading (negatedLits a) b,
+          holds-together reading (negatedLits a) c,
+          holds-together reading (negatedLits b) (negatedLits c),
+          holds-together reading a (together (negatedLits b) (negatedLits c)),
+          holds-together reading (negatedLits b) (negatedLits c),
+          holds-together reading (negatedLits a) (together b c),
+          holds-together reading b c,
+          holds-negated reading p,
+          holds-negated reading q,
+          holds-negated reading r,
+        )
         (eight (holds a reading) (holds b reading) (holds c reading))
 
     pub fork-closes : sum (suc k) all ≡ total (missed reading) (compensating f k) + missed reading a → Alone a → Alone b → Alone c
@@ -93,4 +103,3 @@ module _ (f : ℕ → Lits) (k reading : ℕ) where
         let g3 : f (suc (suc (suc k))) ≡ together (negatedLits b) (negatedLits c) = rw add-three at e3 in
         rw (n4, total-append (missed reading) (compensating f k) (together a (negatedLits (together b c)) ∷ together (negatedLits a) (together b c) ∷ []))
         (omega (arith, sum-suc (suc k) all, sum-suc (suc (suc k)) all, sum-suc (suc (suc (suc k))) all, ap (missed reading) g1, ap (missed reading) g2, ap (missed reading) g3, fork-missed p q r, missed-none reading))
-

@@ -199,18 +199,22 @@ module _ (d : List ℕ) (l : ℤ) (ok : Decided d l) where
       where
         at : ℕ
         at = entryPlace d (standing d)
+
         at-count : p ≡ 3 → getD (withdrawn cleared) p 0 ≡ getD d p 0
         at-count q = rw q (withdrawn-standing cleared (rw length-cleared (omega (arith, long))) ∙ omega (arith, cleared-standing))
+
         outside : (p ≡ 3 → ⊥) → (p < at) ⊎ (at + entryWords ≤ p) → getD (withdrawn cleared) p 0 ≡ getD d p 0
         outside n h =
             withdrawn-out cleared p n (rw cleared-last h)
             ∙ ⊎-elim (λ q. rw q cleared-decided)
             (λ n5. ⊎-elim (λ q. rw q cleared-truths) (λ n6. cleared-out p n5 n6 ∙ decided-out d l p n n5 n6 h) (eq-or-ne p 6))
             (eq-or-ne p 5)
+
         inside : (p ≡ 3 → ⊥) → at ≤ p → p < at + entryWords → getD (withdrawn cleared) p 0 ≡ getD d p 0
         inside n a b =
             withdrawn-in cleared p n (rw cleared-last a) (rw cleared-last b)
             ∙ sym (clean .entries p a (omega (arith, entry-fits d (standing d) (ok .room))))
+
         past-count : (p ≡ 3 → ⊥) → getD (withdrawn cleared) p 0 ≡ getD d p 0
         past-count n =
             ⊎-elim (λ a. outside n (inl a))
@@ -252,8 +256,8 @@ module _ (d : List ℕ) (l : ℤ) (ok : Decided d l) where
         fitting = rw (same-capacity, same-use) (f .fitting);
         steps = rw (decided-standing d l long) (omega (arith, ok .room));
         sound = λ i h.
-        let here : i < inUse d = rw same-use at h in
-        rw (same-variables, decided-row d l i (omega (arith, f .fitting))) (f .sound i here);
+            let here : i < inUse d = rw same-use at h in
+            rw (same-variables, decided-row d l i (omega (arith, f .fitting))) (f .sound i here);
         light = rw (weight-measured (decideStep d l), decided-measured (λ k. 1), ← weight-measured d) (f .light);
         nested = rw (decided-truths d l long, decided-decided d l long) nests;
         within = rw (same-variables, decided-decided d l long, bit-is) (put-lt (variables d) (f .within) (omega (arith, ok .counted, literal-sized l (ok .literal) .some)));
@@ -279,17 +283,18 @@ module _ (d : List ℕ) (l : ℤ) (ok : Decided d l) where
   decided-clean clean =
       record {
         rows = λ p a b.
-        let here : rowPlace (inUse d) ≤ p = rw same-use at a in
-        let there : p < rowPlace (capacity d) = rw same-capacity at b in
-        decided-out d l p (λ q. omega arith) (λ q. omega arith) (λ q. omega arith) (inl (omega (arith, entry-past d (standing d)))) ∙ clean .rows p here there;
+            let here : rowPlace (inUse d) ≤ p = rw same-use at a in
+            let there : p < rowPlace (capacity d) = rw same-capacity at b in
+            decided-out d l p (λ q. omega arith) (λ q. omega arith) (λ q. omega arith) (inl (omega (arith, entry-past d (standing d)))) ∙ clean .rows p here there;
         entries = λ p a b.
-        let here : entryPlace d (standing d) + entryWords ≤ p = next p a in
-        let there : p < deskWords (capacity d) = rw same-capacity at b in
-        decided-out d l p (λ q. far p here (omega arith)) (λ q. far p here (omega arith)) (λ q. far p here (omega arith)) (inr here) ∙ clean .entries p (omega arith) there;
+            let here : entryPlace d (standing d) + entryWords ≤ p = next p a in
+            let there : p < deskWords (capacity d) = rw same-capacity at b in
+            decided-out d l p (λ q. far p here (omega arith)) (λ q. far p here (omega arith)) (λ q. far p here (omega arith)) (inr here) ∙ clean .entries p (omega arith) there;
       }
     where
       far : (p : ℕ) → entryPlace d (standing d) + entryWords ≤ p → p < headWords → ⊥
       far p a b = omega (arith, entry-past d (standing d), row-past-head (capacity d))
+
       next : (p : ℕ) → entryPlace (decideStep d l) (standing (decideStep d l)) ≤ p → entryPlace d (standing d) + entryWords ≤ p
       next p a = rw (entry-next d (decideStep d l) same-capacity (decided-standing d l long)) at a
 
@@ -319,7 +324,7 @@ module _ (d : List ℕ) (reading : ℕ) where
 
 -- a reading that keeps the decisions after one more keeps those before it
 pub kept-before : (d : List ℕ) (l : ℤ) → Decided d l → (reading : ℕ) → keeps (decideStep d l) reading ≡ true → keeps d reading ≡ true
-kept-before d l ok reading e = 
+kept-before d l ok reading e =
     let k = keeps-facts (decideStep d l) reading e in
     facts-keep d reading (record {
       within = rw (same-variables d l ok) at (k .within);
@@ -328,6 +333,7 @@ kept-before d l ok reading e =
   where
     at : (w : ℕ) → w ≡ size l - 1 → has (bitAnd reading (decided d)) w ≡ has (truths d) w
     at w q = rw q (has-and reading (decided d) (size l - 1) ∙ rw (ok .fresh) (and-false (has reading (size l - 1)) ∙ sym (not-true d l ok)))
+
     off : (w : ℕ) → bitAnd reading (decided (decideStep d l)) ≡ truths (decideStep d l) → (w ≡ size l - 1 → ⊥) → has (bitAnd reading (decided d)) w ≡ has (truths d) w
     off w k n =
         let v : ℕ = size l - 1 in

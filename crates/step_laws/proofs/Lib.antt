@@ -13,3 +13,9 @@ pub mod Linked
 pub mod Merged
 pub mod Closing
 pub mod ByKind
+pub mod Accepted
+pub mod Loads
+pub mod Steps
+pub mod Runs
+pub mod Freed
+pub mod TakingBack

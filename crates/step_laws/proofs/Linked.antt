@@ -96,8 +96,10 @@ module _ (n : ℕ) (few : n ≤ 64) (f : ℕ → Lits) where
   unfolding compensating empties
   compensating-full zero e = refl
   compensating-full (suc k) e =
-      rw (empties-append (compensating f k) (together (lit f k) (negatedLits (lit f (suc k))) ∷ []),
-      together-some (lit f k) (negatedLits (lit f (suc k))) (one-some (lit f k) (links-one k (links-before k e))))
+      rw (
+        empties-append (compensating f k) (together (lit f k) (negatedLits (lit f (suc k))) ∷ []),
+        together-some (lit f k) (negatedLits (lit f (suc k))) (one-some (lit f k) (links-one k (links-before k e))),
+      )
       (omega (arith, compensating-full k (links-before k e)))
 
   pub compensating-count : (k : ℕ) → length (compensating f k) ≡ k

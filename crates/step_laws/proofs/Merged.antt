@@ -68,4 +68,3 @@ merged {n} {l} {m} sl sm t reading h same =
     rw (take-negative sl t reading (and-left (has (l .negative) t) (has (m .positive) t) p), take-positive sm t reading (and-right (has (l .negative) t) (has (m .positive) t) p), ← same)
     (two-swapped (holds (apartFrom (2 ^ t) l) reading) (has reading t)))
     (or-cases (has (bitAnd (l .positive) (m .negative)) t) (has (bitAnd (l .negative) (m .positive)) t) (sym (has-or (bitAnd (l .positive) (m .negative)) (bitAnd (l .negative) (m .positive)) t) ∙ h))
-

@@ -46,8 +46,12 @@ module _ (reading : ℕ) where
   pub holds-together : (a b : Lits) → holds (together a b) reading ≡ (holds a reading || holds b reading)
   unfolding holds together
   holds-together a b =
-      rw (or-and-right (a .positive) (b .positive) reading, or-without (a .negative) (b .negative) reading,
-      none-or (bitAnd (a .positive) reading) (bitAnd (b .positive) reading), none-or (without (a .negative) reading) (without (b .negative) reading))
+      rw (
+        or-and-right (a .positive) (b .positive) reading,
+        or-without (a .negative) (b .negative) reading,
+        none-or (bitAnd (a .positive) reading) (bitAnd (b .positive) reading),
+        none-or (without (a .negative) reading) (without (b .negative) reading),
+      )
       (some-of (none (bitAnd (a .positive) reading)) (none (bitAnd (b .positive) reading)) (none (without (a .negative) reading)) (none (without (b .negative) reading)))
 
   pub holds-none : holds noLits reading ≡ false

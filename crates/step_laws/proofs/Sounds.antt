@@ -76,10 +76,13 @@ together-sound {n} {a} {b} s t e =
   where
     left : (x y v : ℕ) → has x v ≡ true → has (bitOr x y) v ≡ true
     left x y v h = has-or x y v ∙ rw h
+
     right : (x y v : ℕ) → has y v ≡ true → has (bitOr x y) v ≡ true
     right x y v h = rw (or-comm x y) (left y x v h)
+
     cross : (v : ℕ) → has (bitOr (a .positive) (a .negative)) v ≡ true → has (bitOr (b .positive) (b .negative)) v ≡ true → ⊥
     cross v h k = clash k (apart (bitOr (a .positive) (a .negative)) (bitOr (b .positive) (b .negative)) e v h)
+
     both-ways : (v : ℕ) → (has (a .positive) v ≡ true) ⊎ (has (b .positive) v ≡ true) → (has (a .negative) v ≡ true) ⊎ (has (b .negative) v ≡ true) → ⊥
     both-ways v (inl p) (inl q) = clash q (apart (a .positive) (a .negative) (s .once) v p)
     both-ways v (inl p) (inr q) = cross v (left (a .positive) (a .negative) v p) (right (b .positive) (b .negative) v q)

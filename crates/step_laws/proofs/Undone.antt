@@ -79,10 +79,13 @@ module _ (d : List ℕ) (kind w : ℕ) (named : List ℕ) (new : List Lits) (c :
     where
       inside : (j : ℕ) → j < inUse d → rowPlace j + 2 < length d
       inside j h = row-inside (plan .desk) j (omega (arith, plan .desk .fitting))
+
       before : getD after p 0 ≡ getD (reweighed (λ x. x - w) row d (length named)) p 0
       before = rewritten-out d kind w named new c plan p n1 n3 n4 out ∙ rows-out d w named new p beside
+
       missed : ((i : ℕ) → i < length named → p ≡ rowPlace (row i) + 2 → ⊥) → getD regained p 0 ≡ getD d p 0
       missed h = reweighed-out (λ x. x + w) row after (length named) p h ∙ before ∙ reweighed-out (λ x. x - w) row d (length named) p h
+
       hit : ((i : ℕ) × (i < length named) × (p ≡ rowPlace (row i) + 2)) → getD regained p 0 ≡ getD d p 0
       hit q =
           let i : ℕ = q .0 in
@@ -128,21 +131,26 @@ module _ (d : List ℕ) (kind w : ℕ) (named : List ℕ) (new : List Lits) (c :
       where
         at : ℕ
         at = entryPlace d (standing d)
+
         at-count : p ≡ 3 → getD (withdrawn cleared) p 0 ≡ getD d p 0
         at-count q = rw q (withdrawn-standing cleared (rw length-cleared (omega (arith, long d kind w named new c plan))) ∙ omega (arith, cleared-standing))
+
         inside : (p ≡ 3 → ⊥) → at ≤ p → p < at + entryWords → getD (withdrawn cleared) p 0 ≡ getD d p 0
         inside n3 a b =
             withdrawn-in cleared p n3 (rw cleared-last a) (rw cleared-last b)
             ∙ sym (clean .entries p a (omega (arith, entry-fits d (standing d) (plan .room))))
+
         -- a word of the rows, or one that no step touches
         beside : (p ≡ 1 → ⊥) → (p ≡ 3 → ⊥) → (p ≡ 4 → ⊥) → (p < at) ⊎ (at + entryWords ≤ p) → (p < rowPlace (inUse d)) ⊎ (rowPlace (inUse d + length new) ≤ p) → getD freed p 0 ≡ getD d p 0
         beside n1 n3 n4 h k =
             zeroed-out regained (rowPlace (inUse d)) (3 * length new) p (⊎-elim inl (λ m. inr (run (inUse d) (length new) p m)) k)
             ∙ regained-at p n1 n3 n4 h k
+
         among : rowPlace (inUse d) ≤ p → p < rowPlace (inUse d + length new) → getD freed p 0 ≡ getD d p 0
         among a b =
             zeroed-in regained (rowPlace (inUse d)) (3 * length new) p a (run-in (inUse d) (length new) p b)
             ∙ sym (clean .rows p a (omega (arith, place-mono (plan .space))))
+
         outside : (p ≡ 3 → ⊥) → (p < at) ⊎ (at + entryWords ≤ p) → getD (withdrawn cleared) p 0 ≡ getD d p 0
         outside n3 h =
             withdrawn-out cleared p n3 (rw cleared-last h)
