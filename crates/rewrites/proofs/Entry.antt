@@ -27,7 +27,7 @@ unfolding rewritingEntry
 entry-whole kind w first named h =
     let n = length named in
     let rest : drop (3 + n) (blank kind w n first) ≡ replicate (mostNamed - n) 0 ++ (first ∷ []) =
-        sym (drop-drop n 3 (blank kind w n first))
-        ∙ drop-append-le n (replicate {A = ℕ} 12 0) (first ∷ []) h
-        ∙ ap (λ (l : List ℕ). l ++ (first ∷ [])) (drop-replicate 12 n) in
+    sym (drop-drop n 3 (blank kind w n first))
+    ∙ drop-append-le n (replicate {A = ℕ} 12 0) (first ∷ []) h
+    ∙ ap (λ (l : List ℕ). l ++ (first ∷ [])) (drop-replicate 12 n) in
     sets-eq named (blank kind w n first) 3 (omega arith) ∙ ap (λ (l : List ℕ). kind ∷ w ∷ n ∷ (named ++ l)) rest

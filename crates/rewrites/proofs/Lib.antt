@@ -4,3 +4,4 @@ pub mod Entry
 pub mod Fills
 pub mod Laying
 pub mod Namings
+pub mod Writing

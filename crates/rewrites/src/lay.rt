@@ -121,7 +121,24 @@ pub fn rewriting_entry(kind: u64, w: u64, named: &[u64], first: u64) -> [u64; 16
     requires { ⌜ length (now named) ≤ 12 ⌝ }
     ensures { λ r. ⌜ r ≡ rewritingEntry kind w (now (named .entry)) first ⌝ }
 {
-    let mut entry = [kind, w, named.len() as u64, 0, 0, 0, 0, 0, 0, 0, 0, 0, 0, 0, 0, first];
+    let mut entry = [
+        kind,
+        w,
+        named.len() as u64,
+        0,
+        0,
+        0,
+        0,
+        0,
+        0,
+        0,
+        0,
+        0,
+        0,
+        0,
+        0,
+        first,
+    ];
     let mut i = 0;
     while i < named.len() {
         entry[3 + i] = named[i];

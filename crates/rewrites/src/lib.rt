@@ -2,8 +2,10 @@
 mod judge;
 mod lay;
 mod remnants;
+mod rewriting;
 
 use literals::Lits;
+pub use rewriting::rewrite;
 
 // What following a chain comes to: whether its rows fit so far, and the literal that the last of them fixes.
 pub struct Link {

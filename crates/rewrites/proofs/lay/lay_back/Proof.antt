@@ -81,10 +81,12 @@ loop-again c =
     let next : c .before .before .before .before .before .before .less .result ≡ R.lit f (l .i + 1) = c .before .before .before .before .before .before .less .ensures ∙ rw (r, c .before .before .before .before .before .before .before .negated .ensures, l .inv .1) (sym (lit-more f (l .i))) in
     let row : c .before .before .before .together .result ≡ together (R.lit f (l .i)) (negatedLits (R.lit f (l .i + 1))) = c .before .before .before .together .ensures ∙ rw (c .before .before .before .before .negated2 .ensures, next, l .inv .1) refl in
     let count : s .args .first + l .i ≡ s .args .first + length ls = ap (λ (k : ℕ). s .args .first + k) (sym (compensating-count 0 (omega arith) f (l .i))) in
-    let after = c .before .before .set-row .ensures in
-    (omega arith, next,
-    after ∙ rw (l .inv .2, row, count, compensating-more f (l .i)) (sym (laid-more d (s .args .first) (s .args .w) ls (together (R.lit f (l .i)) (negatedLits (R.lit f (l .i + 1)))))),
-    ap length after ∙ length-set-row _ _ _ _ ∙ l .inv .3)
+    let after = c .before .before .set-row .ensures in (
+      omega arith,
+      next,
+      after ∙ rw (l .inv .2, row, count, compensating-more f (l .i)) (sym (laid-more d (s .args .first) (s .args .w) ls (together (R.lit f (l .i)) (negatedLits (R.lit f (l .i + 1)))))),
+      ap length after ∙ length-set-row _ _ _ _ ∙ l .inv .3,
+    )
 
 same-length : tie.Need-same-length Inv-loop μ-loop
 same-length c = c .before .loop .inv .3

@@ -1,0 +1,145 @@
+-- What an accepted rewriting has shown, in the words of the functions that write it: the named rows can lose w, the new rows have room,
+-- what is conceded is owed by the kind, and an entry is left.
+use Prim.Native.Nat.{ℕ, _+_, _-_, _*_, _^_, _≤_, _<_}
+use mathlib.Core.Path.{_≡_, refl, sym, ap, _∙_, subst}
+use mathlib.Core.Logic.{⊎-elim, inl}
+use mathlib.Core.List.{List, [], _∷_, _++_}
+use mathlib.Core.Bool.{Bool, true, false, cond, _&&_}
+use native.Mathlib.Omega.{arith}
+use native.Mathlib.Nat.{mul-le-mul-left, mul-one, le-trans, le-of-eq}
+use lib.ListN.{length, getD, set, length-set}
+use lib.Seq.{getD-set-other}
+use lib.Dec.{eqb}
+use borrow.Author.Tests.{ne-eqb}
+use Rattle.masks.specs.Sums.{sum, smallest}
+use Rattle.masks.proofs.Sums.{le-sum, smallest-le}
+use Rattle.masks.proofs.Choice.{cond-elim}
+use Rattle.literals.specs.declared.Lits.{Lits}
+use Rattle.rules.specs.Table.{rowWords, mostWeight}
+use Rattle.rules.specs.Desk.{headWords, variables, inUse, capacity, standing, conceded, mostSteps, entryWords, rowPlace, deskWords, rowOn, weightOn}
+use Rattle.rules.specs.Rewrite.{remnantOf, gives, stored, empties, given, lightest, reweighed, laid, fewerAdded, concedes, rewritingEntry, rewriteStep}
+use Rattle.rules.specs.Decide.{entered}
+use Rattle.step_laws.proofs.Formed.{Formed}
+use Rattle.step_laws.proofs.Stores.{length-reweighed, reweighed-out, length-laid, laid-out}
+use Rattle.step_laws.proofs.Verdicts.{Rewritten}
+use Rattle.step_laws.proofs.ByKind.{Yields, yields, by-kind}
+use Rattle.step_laws.proofs.Accepted.{plan}
+use Rattle.desk.specs.Room.{EntryLeft}
+use Rattle.naming.specs.Reweigh.{Reweighable}
+use Rattle.rewrites.specs.Rows.{OnDesk, Behind, WellNamed, Fitting, addedRows}
+use Rattle.rewrites.proofs.Counts.{well-named, two-named}
+use Rattle.rewrites.proofs.Namings.{Names, on-desk, named-sound, added-stored}
+use Rattle.rewrites.proofs.Laying.{remnant-reweighed, lies-still}
+
+concedes-once : (kind : ℕ) → 1 ≤ kind → kind ≤ 4 → concedes kind ≤ 1
+unfolding concedes
+concedes-once = by-kind (λ k. concedes k ≤ 1) (omega arith) (omega arith) (omega arith) (omega arith)
+
+module _ (d : List ℕ) (kind : ℕ) (named : List ℕ) (ok : Rewritten d kind named) where
+  abbrev pub w : ℕ
+  w = lightest d named
+
+  abbrev pub row : ℕ → ℕ
+  row i = getD named i 0
+
+  abbrev pub lowered : List ℕ
+  lowered = reweighed (λ x. x - w) row d (length named)
+
+  pub named-well : Names d kind named
+  named-well = record { count = well-named kind (length named) (ok .known .0) (ok .known .1) (ok .counted); fitting = ok .counted; used = ok .used; apart = ok .apart }
+
+  pub lies : OnDesk d named
+  lies = on-desk d named (ok .desk) (ok .used)
+
+  pub some-named : 2 ≤ length named
+  some-named = two-named kind (length named) (named-well .count)
+
+  -- a row's weight is within the limit of all
+  weight-fits : (i : ℕ) → i < inUse d → rowOn d i .weight ≤ mostWeight
+  unfolding weightOn
+  weight-fits i h = omega (arith, le-sum (inUse d) (λ k. rowOn d k .weight) i h, ok .desk .light)
+
+  pub light : w ≤ mostWeight
+  light = omega (arith, plan d kind named ok .heavy 0 (omega (arith, some-named)), weight-fits (row 0) (ok .used 0 (omega (arith, some-named))))
+
+  pub can-lose : Reweighable d named w false
+  can-lose =
+      record {
+        inside = lies .inside;
+        apart = ok .apart;
+        fits = λ i l. omega (arith, weight-fits (row i) (ok .used i l));
+        holds = plan d kind named ok .heavy;
+      }
+
+  pub added-is : addedRows d kind named ≡ length (stored (given d kind named))
+  added-is = added-stored d kind named (ok .desk) named-well (ok .fitted)
+
+  debts : Yields (variables d) kind (length named) (remnantOf d named)
+  debts =
+      yields (variables d) (ok .desk .named) (remnantOf d named) kind (length named) (ok .known .0) (ok .known .1) (ok .counted)
+      (named-sound d kind named (ok .desk) named-well) (ok .fitted)
+
+  pub owed-is : empties (given d kind named) ≡ cond (eqb kind 1 && eqb (addedRows d kind named) 0) 1 (concedes kind)
+  unfolding given
+  owed-is = rw added-is (debts .owed)
+
+  pub owed-once : w * cond (eqb kind 1 && eqb (addedRows d kind named) 0) 1 (concedes kind) ≤ mostWeight
+  owed-once =
+      let few : cond (eqb kind 1 && eqb (addedRows d kind named) 0) 1 (concedes kind) ≤ 1 =
+      cond-elim (λ (x : ℕ). x ≤ 1) (eqb kind 1 && eqb (addedRows d kind named) 0) 1 (concedes kind) (λ e. omega arith) (λ e. concedes-once kind (ok .known .0) (ok .known .1)) in
+      le-trans (mul-le-mul-left w few) (le-trans (le-of-eq (mul-one w)) light)
+
+  length-lowered : length lowered ≡ length d
+  length-lowered = length-reweighed (λ x. x - w) row d (length named)
+
+  same-remnants : remnantOf lowered named ≡ remnantOf d named
+  same-remnants = remnant-reweighed (λ x. x - w) row d named (length named)
+
+  pub can-lay : Fitting lowered kind named (inUse d)
+  unfolding given deskWords rowPlace
+  can-lay =
+      record {
+        behind = record { lies = lies-still d lowered named length-lowered lies; before = ok .used };
+        count = named-well .count;
+        full = λ k. rw same-remnants (debts .owed ∙ rw (ne-eqb kind 1 k));
+        room = omega (arith, length-lowered, ok .desk .reaching, ok .desk .fitting, plan d kind named ok .few);
+      }
+
+  -- the head's words are as they were, but for rows in use and conceded
+  abbrev pub laidOut : List ℕ
+  laidOut = laid lowered (inUse d) w (stored (given d kind named))
+
+  -- what is laid on rows that lost w is what document 01 gives
+  pub laid-same : (e : List ℕ) (v : ℕ) → e ≡ lowered → v ≡ w → laid e (inUse d) v (stored (gives kind (length named) (remnantOf e named))) ≡ laidOut
+  unfolding given
+  laid-same e v p q = rw (p, q, same-remnants)
+
+  pub length-out : length laidOut ≡ length d
+  length-out = length-laid lowered (inUse d) w (stored (given d kind named)) ∙ length-lowered
+
+  head-out : (p : ℕ) → p < headWords → getD laidOut p 0 ≡ getD d p 0
+  unfolding rowPlace
+  head-out p h =
+      laid-out lowered (inUse d) w (stored (given d kind named)) p (inl (omega arith))
+      ∙ reweighed-out (λ x. x - w) row d (length named) p (λ i l e. omega arith)
+
+  -- an entry is left, whatever the rows in use and conceded are set to
+  pub entry-still : (a b : ℕ) → EntryLeft (set (set laidOut 1 a) 4 b)
+  unfolding deskWords rowPlace
+  entry-still a b =
+      let same : (p : ℕ) → p < headWords → (p ≡ 1 → ⊥) → (p ≡ 4 → ⊥) → getD (set (set laidOut 1 a) 4 b) p 0 ≡ getD d p 0 =
+      λ p h x y. getD-set-other (set laidOut 1 a) 4 p b 0 y ∙ getD-set-other laidOut 1 p a 0 x ∙ head-out p h in
+      let c = same 2 (omega arith) (λ q. omega arith) (λ q. omega arith) in
+      let s = same 3 (omega arith) (λ q. omega arith) (λ q. omega arith) in
+      let n : length (set (set laidOut 1 a) 4 b) ≡ length d = length-set (set laidOut 1 a) 4 b ∙ length-set laidOut 1 a ∙ length-out in
+      record {
+        fits = omega (arith, c, ok .desk .roomy);
+        reach = omega (arith, c, n, ok .desk .reaching);
+        left = omega (arith, s, ok .room);
+      }
+
+  -- the whole step, from its parts
+  pub step-whole : (rows owed : ℕ) → rows ≡ addedRows d kind named → owed ≡ cond (eqb kind 1 && eqb (addedRows d kind named) 0) 1 (concedes kind)
+      → entered (set (set laidOut 1 (inUse d + rows)) 4 (conceded d + w * owed)) (rewritingEntry kind w named (inUse d)) ≡ rewriteStep d kind named
+  unfolding rewriteStep
+  step-whole rows owed a b = rw (a ∙ added-is, b ∙ sym owed-is)
