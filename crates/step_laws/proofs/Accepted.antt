@@ -81,12 +81,13 @@ module _ (d : List ℕ) (kind : ℕ) (named : List ℕ) (ok : Rewritten d kind n
   abbrev owed : ℕ
   owed = w * empties rows
 
-  debts : Yields (variables d) kind (length named) (remnantOf d named)
+  pub remnants-sound : (i : ℕ) → i < length named → Sound (variables d) (remnantOf d named i)
   unfolding remnantOf
+  remnants-sound i h = remnant-sound (variables d) d (ok .desk .sound (getD named i 0) (ok .used i h))
+
+  debts : Yields (variables d) kind (length named) (remnantOf d named)
   debts =
-      yields (variables d) (ok .desk .named) (remnantOf d named) kind (length named) (ok .known .0) (ok .known .1) (ok .counted)
-      (λ i l. remnant-sound (variables d) d (ok .desk .sound (getD named i 0) (ok .used i l)))
-      (ok .fitted)
+      yields (variables d) (ok .desk .named) (remnantOf d named) kind (length named) (ok .known .0) (ok .known .1) (ok .counted) remnants-sound (ok .fitted)
 
   pub plan : Plan d w named new
   unfolding lightest
@@ -139,7 +140,7 @@ module _ (d : List ℕ) (kind : ℕ) (named : List ℕ) (ok : Rewritten d kind n
       let scaled : w * sum (length named) (λ i. m (rowOn d (getD named i 0) .lits)) ≡ w * empties rows + w * total m new = ap (λ (x : ℕ). w * x) same ∙ mul-add w (empties rows) (total m new) in
       omega (arith, balance m d kind w named new owed plan)
 
-  weight-no-more : weightOn after ≤ weightOn d
+  pub weight-no-more : weightOn after ≤ weightOn d
   unfolding given
   weight-no-more =
       let few : w * (length new + empties rows) ≤ w * length named = mul-le-mul-left w (rw (stored-count rows) (debts .fewer)) in
@@ -148,7 +149,7 @@ module _ (d : List ℕ) (kind : ℕ) (named : List ℕ) (ok : Rewritten d kind n
 
   -- ---- well formed and clean
 
-  head-same : (p : ℕ) → p < headWords → (p ≡ 1 → ⊥) → (p ≡ 3 → ⊥) → (p ≡ 4 → ⊥) → getD after p 0 ≡ getD d p 0
+  head-same : (p : ℕ) → (p < headWords) × (p ≡ 1 → ⊥) × (p ≡ 3 → ⊥) × (p ≡ 4 → ⊥) → getD after p 0 ≡ getD d p 0
   head-same = rewritten-head d kind w named new owed plan
 
   row-sound : (i : ℕ) → i < inUse d + length new → Sound (variables d) (rowOn after i .lits)
@@ -167,10 +168,10 @@ module _ (d : List ℕ) (kind : ℕ) (named : List ℕ) (ok : Rewritten d kind n
       let f = ok .desk in
       let u = rewritten-use d kind w named new owed plan in
       let c = rewritten-capacity d kind w named new owed plan in
-      let v : variables after ≡ variables d = head-same 0 (omega arith) (λ q. omega arith) (λ q. omega arith) (λ q. omega arith) in
-      let l : loaded after ≡ loaded d = head-same 7 (omega arith) (λ q. omega arith) (λ q. omega arith) (λ q. omega arith) in
-      let m : decided after ≡ decided d = head-same 5 (omega arith) (λ q. omega arith) (λ q. omega arith) (λ q. omega arith) in
-      let t : truths after ≡ truths d = head-same 6 (omega arith) (λ q. omega arith) (λ q. omega arith) (λ q. omega arith) in
+      let v : variables after ≡ variables d = head-same 0 (omega arith) in
+      let l : loaded after ≡ loaded d = head-same 7 (omega arith) in
+      let m : decided after ≡ decided d = head-same 5 (omega arith) in
+      let t : truths after ≡ truths d = head-same 6 (omega arith) in
       record {
         roomy = rw c (f .roomy);
         reaching = rw (c, length-rewritten d kind w named new owed plan) (f .reaching);
@@ -203,7 +204,8 @@ module _ (d : List ℕ) (kind : ℕ) (named : List ℕ) (ok : Rewritten d kind n
       next : (p : ℕ) → entryPlace after (standing after) ≤ p → entryPlace d (standing d) + entryWords ≤ p
       next p a = rw (entry-next d after (rewritten-capacity d kind w named new owed plan) (rewritten-standing d kind w named new owed plan)) at a
 
-      out : (p : ℕ) → (p ≡ 1 → ⊥) → (p ≡ 3 → ⊥) → (p ≡ 4 → ⊥) → (p < entryPlace d (standing d)) ⊎ (entryPlace d (standing d) + entryWords ≤ p) → rowPlace (inUse d + length new) ≤ p → getD after p 0 ≡ getD d p 0
+      out : (p : ℕ) → (p ≡ 1 → ⊥) → (p ≡ 3 → ⊥) → (p ≡ 4 → ⊥) → (p < entryPlace d (standing d)) ⊎ (entryPlace d (standing d) + entryWords ≤ p)
+          → rowPlace (inUse d + length new) ≤ p → getD after p 0 ≡ getD d p 0
       out p a b c h k =
           rewritten-out d kind w named new owed plan p a b c h ∙ rows-out d w named new p (inr k)
           ∙ reweighed-out (λ x. x - w) (λ i. getD named i 0) d (length named) p (λ i l e. omega (arith, ok .used i l))
@@ -232,7 +234,7 @@ module _ (d : List ℕ) (kind : ℕ) (named : List ℕ) (ok : Rewritten d kind n
       let before : every (lastCount after) (λ i. ltb (lastNamed after i) (lastFirst after)) ≡ true =
       rw n (every-true (length named) (λ i l. lt-ltb (lastNamed after i) (lastFirst after) (rw (first, last-named d kind w named new owed plan i l) (ok .used i l)))) in
       let loads : ltb (lastFirst after) (loaded after) ≡ false =
-      rw (first, head-same 7 (omega arith) (λ q. omega arith) (λ q. omega arith) (λ q. omega arith)) (le-ltb (inUse d) (loaded d) (ok .desk .kept)) in
+      rw (first, head-same 7 (omega arith)) (le-ltb (inUse d) (loaded d) (ok .desk .kept)) in
       let repaid : ltb (conceded after) (lastConceded after) ≡ false =
       rw (owes, rewritten-conceded d kind w named new owed plan) (le-ltb (conceded d + owed) owed (omega arith)) in
       let light : weightFits (undoRewriting after) ≡ true =

@@ -106,11 +106,14 @@ module _ (n : ℕ) (few : n ≤ 64) (f : ℕ → Lits) where
 
   -- ---- fork
 
-  fork-gives : (k : ℕ) → gives 4 (k + 4) f ≡ noLits ∷ (compensating f k ++ (together (lit f k) (negatedLits (together (forked f k 1) (forked f k 2))) ∷ together (negatedLits (lit f k)) (together (forked f k 1) (forked f k 2)) ∷ []))
+  abbrev forkRows : ℕ → List Lits
+  forkRows k =
+      let bc : Lits = together (forked f k 1) (forked f k 2) in
+      noLits ∷ (compensating f k ++ (together (lit f k) (negatedLits bc) ∷ together (negatedLits (lit f k)) bc ∷ []))
+
+  fork-gives : (k : ℕ) → gives 4 (k + 4) f ≡ forkRows k
   unfolding gives
-  fork-gives k =
-      let e : k + 4 - 4 ≡ k = omega arith in
-      ap (λ (j : ℕ). noLits ∷ (compensating f j ++ (together (lit f j) (negatedLits (together (forked f j 1) (forked f j 2))) ∷ together (negatedLits (lit f j)) (together (forked f j 1) (forked f j 2)) ∷ []))) e
+  fork-gives k = let e : k + 4 - 4 ≡ k = omega arith in ap forkRows e
 
   fork-yields : (k : ℕ) → ((i : ℕ) → i < k + 4 → Sound n (f i)) → forks f k ≡ true → Yields n 4 (k + 4) f
   unfolding forks fewerAdded concedes
@@ -184,7 +187,8 @@ module _ (n : ℕ) (few : n ≤ 64) (f : ℕ → Lits) where
         adds = ⊎-elim (λ q. inr (refl, rw q)) (λ q. inl (rw q)) (cases (isEmpty rest));
         owed = ⊎-elim (λ q. rw q) (λ q. rw q) (cases (isEmpty rest));
         balanced = λ reading.
-            omega (arith, sum-suc 1 (λ i. missed reading (f i)), sum-suc 0 (λ i. missed reading (f i)), sum-empty (λ i. missed reading (f i)), merged (s 0 (omega arith)) (s 1 (omega arith)) t reading there alike, ap (λ (m : ℕ). missed reading (apartFrom m (f 0))) is);
+            let m : ℕ → ℕ = λ i. missed reading (f i) in
+            omega (arith, sum-suc 1 m, sum-suc 0 m, sum-empty m, merged (s 0 (omega arith)) (s 1 (omega arith)) t reading there alike, ap (λ (x : ℕ). missed reading (apartFrom x (f 0))) is);
       }
 
   -- ---- every kind

@@ -2,11 +2,11 @@
 -- The definition is a conjunction of tests; each test is a fact, and `omega` reads the facts.
 -- A set of literals is sound for a count of variables where 5 does not refuse it.
 use Prim.Native.Nat.{ℕ, _+_, _≤_, _<_, _^_}
-use mathlib.Core.Path.{_≡_, refl, sym}
+use mathlib.Core.Path.{_≡_, refl}
 use mathlib.Core.List.{List}
 use mathlib.Core.Bool.{Bool, true, false, not, _&&_, _||_, and-eq-true-iff, true≢false}
 use native.Mathlib.Omega.{arith}
-use borrow.Author.Tests.{leb-true, le-leb, not-true}
+use borrow.Author.Tests.{leb-true, le-leb, not-true, not-false}
 use lib.ListN.{length}
 use lib.Bits.{bitAnd}
 use lib.Dec.{leb}
@@ -18,7 +18,7 @@ use Rattle.masks.proofs.Sums.{every-at, every-true}
 use Rattle.literals.specs.declared.Lits.{Lits}
 use Rattle.literals.specs.Literal.{mostVariables}
 use Rattle.rules.specs.Table.{mostRows, mostWeight, badLits}
-use Rattle.rules.specs.Desk.{mostCapacity, mostSteps, variables, inUse, capacity, standing, decided, truths, loaded, rowPlace, deskWords, rowOn, weightOn, reaches, inLimits, rowsSound, weightFits, masksNest, wellFormed}
+use Rattle.rules.specs.Desk.{headWords, mostCapacity, mostSteps, variables, inUse, capacity, standing, decided, truths, loaded, rowPlace, deskWords, rowOn, weightOn, reaches, inLimits, rowsSound, weightFits, masksNest, wellFormed}
 
 -- no variable both ways, none above the count
 pub record Sound (n : ℕ) (l : Lits) : Type 0 where
@@ -41,19 +41,21 @@ pub record Formed (d : List ℕ) : Type 0 where
 
 -- ---- literals
 
-neither : (a b : Bool) → (not a || not b) ≡ false → (a ≡ true) × (b ≡ true)
-neither true true e = (refl, refl)
-neither true false e = (refl, sym e)
-neither false b e = absurd (true≢false e)
+pub neither : (a b : Bool) → (a || b) ≡ false → (a ≡ false) × (b ≡ false)
+neither true b e = absurd (true≢false e)
+neither false b e = (refl, e)
 
 pub sound-of : (n : ℕ) (l : Lits) → badLits n l ≡ false → Sound n l
 unfolding badLits
 sound-of n l e =
-    let parts = neither (none (bitAnd (l .positive) (l .negative))) (below (l .positive) n && below (l .negative) n) e in
+    let meet : Bool = none (bitAnd (l .positive) (l .negative)) in
+    let low : Bool = below (l .positive) n && below (l .negative) n in
+    let parts = neither (not meet) (not low) e in
+    let lows = not-false low (parts .1) in
     record {
-      once = zero-none (bitAnd (l .positive) (l .negative)) (parts .0);
-      positives = below-lt (l .positive) n (and-left (below (l .positive) n) (below (l .negative) n) (parts .1));
-      negatives = below-lt (l .negative) n (and-right (below (l .positive) n) (below (l .negative) n) (parts .1));
+      once = zero-none (bitAnd (l .positive) (l .negative)) (not-false meet (parts .0));
+      positives = below-lt (l .positive) n (and-left (below (l .positive) n) (below (l .negative) n) lows);
+      negatives = below-lt (l .negative) n (and-right (below (l .positive) n) (below (l .negative) n) lows);
     }
 
 pub of-sound : {n : ℕ} {l : Lits} → Sound n l → badLits n l ≡ false
@@ -100,6 +102,11 @@ well {d} f =
     (both (every-true (inUse d) (λ i h. rw (of-sound (f .sound i h))))
     (both (le-leb (weightOn d) mostWeight (f .light))
     (both (none-zero (f .nested)) (lt-below (variables d) (f .within))))))
+
+-- the head is lent
+pub head-inside : {d : List ℕ} → Formed d → headWords ≤ length d
+unfolding deskWords rowPlace
+head-inside f = omega (arith, f .reaching)
 
 -- the words of a row below the capacity are lent
 pub row-inside : {d : List ℕ} → Formed d → (i : ℕ) → i < capacity d → rowPlace i + 2 < length d

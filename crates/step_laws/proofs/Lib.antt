@@ -2,8 +2,10 @@ pub mod Formed
 pub mod Stores
 pub mod Verdicts
 pub mod Entries
+pub mod Undoing
 pub mod Weights
 pub mod Decisions
+pub mod DecisionKept
 pub mod Rewritings
 pub mod Undone
 pub mod Balance
@@ -19,3 +21,6 @@ pub mod Steps
 pub mod Runs
 pub mod Freed
 pub mod TakingBack
+pub mod Shown
+pub mod InWords
+pub mod Found

@@ -23,8 +23,8 @@ use Rattle.rules.specs.Refusals.{refuse, inOrder}
 use Rattle.rules.specs.Table.{rowWords, mostRows, mostWeight, rowIn, rowOf, rowCount, givenUp, weighs, badTable, badLits, badWeight, rowWhy, rowsWhy, sumTooLarge}
 use Rattle.rules.specs.Desk.{mostCapacity, mostSteps, entryWords, variables, inUse, capacity, standing, conceded, decided, truths, loaded, rowPlace, entryPlace, deskWords, rowOn, weightOn, deskWeighs, loadWhy, loadStep}
 use Rattle.step_laws.specs.Clean.{Clean}
-use Rattle.step_laws.proofs.Formed.{Sound, sound-of, Formed}
-use Rattle.step_laws.proofs.Verdicts.{past, past-both, neither}
+use Rattle.step_laws.proofs.Formed.{neither, Sound, sound-of, Formed}
+use Rattle.step_laws.proofs.Verdicts.{past, past-both}
 
 pub record Loaded (n : ℕ) (table : List ℕ) (c : ℕ) (d : List ℕ) : Type 0 where
   pub counted : n ≤ mostVariables

@@ -26,20 +26,30 @@ two false false = refl
 
 -- ---- a set and the bit of one of its literals
 
-module _ {n : ℕ} {l : Lits} (s : Sound n l) (t reading : ℕ) where
-  take-positive : has (l .positive) t ≡ true → holds l reading ≡ (holds (apartFrom (2 ^ t) l) reading || has reading t)
-  take-positive h =
-      let whole : l ≡ together (apartFrom (2 ^ t) l) (record { positive = 2 ^ t; negative = 0 }) = unfold together apartFrom in
-      lits-ext _ _ (sym (take-put (l .positive) t h)) (sym (or-zero-r (without (l .negative) (2 ^ t)) ∙ take-out (l .negative) t (apart (l .positive) (l .negative) (s .once) t h))) in
-      ap (λ (k : Lits). holds k reading) whole
+module _ {n : ℕ} {l : Lits} (s : Sound n l) (t : ℕ) where
+  -- the set is the rest and that literal
+  pub split-positive : has (l .positive) t ≡ true → l ≡ together (apartFrom (2 ^ t) l) (record { positive = 2 ^ t; negative = 0 })
+  unfolding together apartFrom
+  split-positive h =
+      lits-ext _ _ (sym (take-put (l .positive) t h))
+      (sym (or-zero-r (without (l .negative) (2 ^ t)) ∙ take-out (l .negative) t (apart (l .positive) (l .negative) (s .once) t h)))
+
+  pub split-negative : has (l .negative) t ≡ true → l ≡ together (apartFrom (2 ^ t) l) (record { positive = 0; negative = 2 ^ t })
+  unfolding together apartFrom
+  split-negative h =
+      lits-ext _ _
+      (sym (or-zero-r (without (l .positive) (2 ^ t)) ∙ take-out (l .positive) t (not-so (λ k. clash h (apart (l .positive) (l .negative) (s .once) t k)))))
+      (sym (take-put (l .negative) t h))
+
+  take-positive : (reading : ℕ) → has (l .positive) t ≡ true → holds l reading ≡ (holds (apartFrom (2 ^ t) l) reading || has reading t)
+  take-positive reading h =
+      ap (λ (k : Lits). holds k reading) (split-positive h)
       ∙ holds-together reading (apartFrom (2 ^ t) l) (record { positive = 2 ^ t; negative = 0 })
       ∙ ap (λ (x : Bool). holds (apartFrom (2 ^ t) l) reading || x) (holds-positive reading t)
 
-  take-negative : has (l .negative) t ≡ true → holds l reading ≡ (holds (apartFrom (2 ^ t) l) reading || not (has reading t))
-  take-negative h =
-      let whole : l ≡ together (apartFrom (2 ^ t) l) (record { positive = 0; negative = 2 ^ t }) = unfold together apartFrom in
-      lits-ext _ _ (sym (or-zero-r (without (l .positive) (2 ^ t)) ∙ take-out (l .positive) t (not-so (λ k. clash h (apart (l .positive) (l .negative) (s .once) t k))))) (sym (take-put (l .negative) t h)) in
-      ap (λ (k : Lits). holds k reading) whole
+  take-negative : (reading : ℕ) → has (l .negative) t ≡ true → holds l reading ≡ (holds (apartFrom (2 ^ t) l) reading || not (has reading t))
+  take-negative reading h =
+      ap (λ (k : Lits). holds k reading) (split-negative h)
       ∙ holds-together reading (apartFrom (2 ^ t) l) (record { positive = 0; negative = 2 ^ t })
       ∙ ap (λ (x : Bool). holds (apartFrom (2 ^ t) l) reading || x) (holds-negative reading t)
 

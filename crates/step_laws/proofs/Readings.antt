@@ -21,7 +21,7 @@ use Rattle.literals.proofs.TwoMasks.{Held, lits-ext, lits-positive, lits-negati
 use Rattle.literals.proofs.OneBit.{bit-literal, place-below}
 use Rattle.literals.proofs.OneLiteral.{one-lits}
 use Rattle.rules.specs.Table.{holds}
-use Rattle.step_laws.proofs.Verdicts.{neither}
+use Rattle.step_laws.proofs.Formed.{neither}
 use Rattle.rules.specs.Desk.{decided, truths, decisions, satisfied, remnant}
 
 -- ---- unions
@@ -121,16 +121,17 @@ negative-bit false d t r a b = refl
 pub holds-remnant : (d : List ℕ) (reading : ℕ) (l : Lits) → bitAnd reading (decided d) ≡ truths d → satisfied (decisions d) l ≡ false
     → holds (remnant (decisions d) l) reading ≡ holds l reading
 unfolding holds remnant satisfied decisions
-holds-remnant d reading l agrees open-still =
-    let t = neither (not (none (bitAnd (l .positive) (truths d)))) (not (none (bitAnd (l .negative) (without (decided d) (truths d))))) open-still in
-    let none-true : bitAnd (l .positive) (truths d) ≡ 0 = zero-none (bitAnd (l .positive) (truths d)) (not-false (none (bitAnd (l .positive) (truths d))) (t .0)) in
-    let none-false : bitAnd (l .negative) (without (decided d) (truths d)) ≡ 0 =
-    zero-none (bitAnd (l .negative) (without (decided d) (truths d))) (not-false (none (bitAnd (l .negative) (without (decided d) (truths d)))) (t .1)) in
+holds-remnant d reading l agrees unsatisfied =
+    let off : ℕ = without (decided d) (truths d) in
+    let t = neither (not (none (bitAnd (l .positive) (truths d)))) (not (none (bitAnd (l .negative) off))) unsatisfied in
+    let no-true : bitAnd (l .positive) (truths d) ≡ 0 = zero-none (bitAnd (l .positive) (truths d)) (not-false (none (bitAnd (l .positive) (truths d))) (t .0)) in
+    let no-false : bitAnd (l .negative) off ≡ 0 = zero-none (bitAnd (l .negative) off) (not-false (none (bitAnd (l .negative) off)) (t .1)) in
     let bits : (v : ℕ) → (has reading v && has (decided d) v) ≡ has (truths d) v = λ v. sym (has-and reading (decided d) v) ∙ ap (λ (m : ℕ). has m v) agrees in
     let p : bitAnd (l .positive) reading ≡ bitAnd (without (l .positive) (decided d)) reading =
     has-ext (λ v. simp (has-and, has-without) (positive-bit (has (l .positive) v) (has (decided d) v) (has (truths d) v) (has reading v)
-    (sym (has-and (l .positive) (truths d) v) ∙ ap (λ (m : ℕ). has m v) none-true ∙ has-zero v) (bits v))) in
+    (sym (has-and (l .positive) (truths d) v) ∙ ap (λ (m : ℕ). has m v) no-true ∙ has-zero v) (bits v))) in
     let n : without (l .negative) reading ≡ without (without (l .negative) (decided d)) reading =
     has-ext (λ v. simp has-without (negative-bit (has (l .negative) v) (has (decided d) v) (has (truths d) v) (has reading v)
-    (ap (λ (x : Bool). has (l .negative) v && x) (sym (has-without (decided d) (truths d) v)) ∙ sym (has-and (l .negative) (without (decided d) (truths d)) v) ∙ ap (λ (m : ℕ). has m v) none-false ∙ has-zero v) (bits v))) in
+    (ap (λ (x : Bool). has (l .negative) v && x) (sym (has-without (decided d) (truths d) v)) ∙ sym (has-and (l .negative) off v)
+    ∙ ap (λ (m : ℕ). has m v) no-false ∙ has-zero v) (bits v))) in
     rw (p, n)

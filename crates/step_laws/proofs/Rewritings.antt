@@ -9,13 +9,13 @@ use native.Mathlib.Omega.{arith}
 use lib.ListN.{length, getD, set, replicate, length-set, length-append, length-replicate, List·getD-append}
 use lib.Seq.{getD-set-same, getD-set-other, getD-append-add}
 use Rattle.literals.specs.declared.Lits.{Lits}
-use Rattle.rules.specs.Desk.{headWords, inUse, capacity, standing, conceded, entryWords, mostSteps, rowPlace, entryPlace, deskWords, rowOn}
+use Rattle.rules.specs.Desk.{headWords, inUse, capacity, standing, conceded, entryWords, mostSteps, rowPlace, entryPlace, rowOn}
 use Rattle.rules.specs.Decide.{entered}
 use Rattle.rules.specs.Rewrite.{mostNamed, stored, empties, given, lightest, reweighed, laid, rewritingEntry, rewriteStep}
 use Rattle.rules.specs.TakeBack.{lastPlace, lastKind, lastWeight, lastCount, lastNamed, lastFirst}
-use Rattle.step_laws.proofs.Formed.{Formed}
+use Rattle.step_laws.proofs.Formed.{Formed, head-inside}
 use Rattle.step_laws.proofs.Stores.{Distinct, row-same, length-reweighed, reweighed-out, length-laid, laid-out}
-use Rattle.step_laws.proofs.Entries.{entry-fits, entry-past, row-past-head, length-entered, entered-out, entered-head, entered-standing, entered-in}
+use Rattle.step_laws.proofs.Entries.{entry-inside, entry-past, row-past-head, length-entered, entered-out, entered-head, entered-standing, entered-in}
 
 -- the named rows less w, and the new rows behind those in use
 unfoldable pub rowsAfter : List ℕ → ℕ → List ℕ → List Lits → List ℕ
@@ -97,21 +97,17 @@ module _ (d : List ℕ) (kind w : ℕ) (named : List ℕ) (new : List Lits) (c :
       getD-set-other (set (rowsAfter d w named new) 1 (inUse d + length new)) 4 p (conceded d + c) 0 b
       ∙ getD-set-other (rowsAfter d w named new) 1 p (inUse d + length new) 0 a
 
-  counted-head : (p : ℕ) → p < headWords → (p ≡ 1 → ⊥) → (p ≡ 4 → ⊥) → getD counted p 0 ≡ getD d p 0
-  counted-head p h a b = counted-out p a b ∙ rows-head d w named new p h
+  counted-head : (p : ℕ) → (p < headWords) × (p ≡ 1 → ⊥) × (p ≡ 4 → ⊥) → getD counted p 0 ≡ getD d p 0
+  counted-head p o = counted-out p (o .1) (o .2) ∙ rows-head d w named new p (o .0)
 
   length-counted : length counted ≡ length d
   length-counted = simp length-set (length-rows d w named new)
 
-  pub long : headWords ≤ length d
-  unfolding deskWords rowPlace
-  long = omega (arith, plan .desk .reaching)
-
   counted-place : entryPlace counted (standing counted) ≡ entryPlace d (standing d)
   unfolding entryPlace
   counted-place =
-      let s : standing counted ≡ standing d = counted-head 3 (omega arith) (λ q. omega arith) (λ q. omega arith) in
-      let k : capacity counted ≡ capacity d = counted-head 2 (omega arith) (λ q. omega arith) (λ q. omega arith) in
+      let s : standing counted ≡ standing d = counted-head 3 (omega arith) in
+      let k : capacity counted ≡ capacity d = counted-head 2 (omega arith) in
       rw (s, k)
 
   abbrev entry : List ℕ
@@ -131,31 +127,31 @@ module _ (d : List ℕ) (kind w : ℕ) (named : List ℕ) (new : List Lits) (c :
   rewritten-out p a b e h =
       entered-out counted entry p b (rw (counted-place, entry-length kind w named (inUse d) (plan .few)) h) ∙ counted-out p a e
 
-  pub rewritten-head : (p : ℕ) → p < headWords → (p ≡ 1 → ⊥) → (p ≡ 3 → ⊥) → (p ≡ 4 → ⊥) → getD after p 0 ≡ getD d p 0
-  rewritten-head p h a b e =
-      rewritten-out p a b e (inl (omega (arith, entry-past d (standing d), row-past-head (capacity d)))) ∙ rows-head d w named new p h
+  pub rewritten-head : (p : ℕ) → (p < headWords) × (p ≡ 1 → ⊥) × (p ≡ 3 → ⊥) × (p ≡ 4 → ⊥) → getD after p 0 ≡ getD d p 0
+  rewritten-head p o =
+      rewritten-out p (o .1) (o .2) (o .3) (inl (omega (arith, entry-past d (standing d), row-past-head (capacity d)))) ∙ rows-head d w named new p (o .0)
 
   pub rewritten-use : inUse after ≡ inUse d + length new
   unfolding rewritten
   rewritten-use =
-      entered-head counted entry 1 (omega arith) (λ q. omega arith)
+      entered-head counted entry 1 (omega arith)
       ∙ getD-set-other (set (rowsAfter d w named new) 1 (inUse d + length new)) 4 1 (conceded d + c) 0 (λ q. omega arith)
-      ∙ getD-set-same (rowsAfter d w named new) 1 (inUse d + length new) 0 (rw (length-rows d w named new) (omega (arith, long)))
+      ∙ getD-set-same (rowsAfter d w named new) 1 (inUse d + length new) 0 (rw (length-rows d w named new) (omega (arith, head-inside (plan .desk))))
 
   pub rewritten-conceded : conceded after ≡ conceded d + c
   unfolding rewritten
   rewritten-conceded =
-      entered-head counted entry 4 (omega arith) (λ q. omega arith)
-      ∙ getD-set-same (set (rowsAfter d w named new) 1 (inUse d + length new)) 4 (conceded d + c) 0 (simp length-set (rw (length-rows d w named new) (omega (arith, long))))
+      entered-head counted entry 4 (omega arith)
+      ∙ getD-set-same (set (rowsAfter d w named new) 1 (inUse d + length new)) 4 (conceded d + c) 0 (simp length-set (rw (length-rows d w named new) (omega (arith, head-inside (plan .desk)))))
 
   pub rewritten-capacity : capacity after ≡ capacity d
-  rewritten-capacity = rewritten-head 2 (omega arith) (λ q. omega arith) (λ q. omega arith) (λ q. omega arith)
+  rewritten-capacity = rewritten-head 2 (omega arith)
 
   pub rewritten-standing : standing after ≡ standing d + 1
   unfolding rewritten
   rewritten-standing =
-      entered-standing counted entry (rw length-counted (omega (arith, long)))
-      ∙ ap (λ (x : ℕ). x + 1) (counted-head 3 (omega arith) (λ q. omega arith) (λ q. omega arith))
+      entered-standing counted entry (rw length-counted (omega (arith, head-inside (plan .desk))))
+      ∙ ap (λ (x : ℕ). x + 1) (counted-head 3 (omega arith))
 
   pub rewritten-row : (i : ℕ) → i < capacity d → rowOn after i ≡ rowOn (rowsAfter d w named new) i
   unfolding rowPlace
@@ -164,9 +160,6 @@ module _ (d : List ℕ) (kind w : ℕ) (named : List ℕ) (new : List Lits) (c :
       (λ p a b. rewritten-out p (λ q. omega arith) (λ q. omega arith) (λ q. omega arith) (inl (omega (arith, entry-past d (standing d)))))
 
   -- ---- the last entry
-
-  ends : entryPlace d (standing d) + entryWords ≤ length d
-  ends = omega (arith, entry-fits d (standing d) (plan .room), plan .desk .reaching)
 
   pub rewritten-last : lastPlace after ≡ entryPlace d (standing d)
   unfolding lastPlace entryPlace
@@ -178,7 +171,7 @@ module _ (d : List ℕ) (kind w : ℕ) (named : List ℕ) (new : List Lits) (c :
   unfolding rewritten
   last-word k h =
       ap (λ (at : ℕ). getD after (at + k) 0) (rewritten-last ∙ sym counted-place)
-      ∙ entered-in counted entry k (rw (entry-length kind w named (inUse d) (plan .few)) h) (rw (counted-place, length-counted) (omega (arith, ends)))
+      ∙ entered-in counted entry k (rw (entry-length kind w named (inUse d) (plan .few)) h) (rw (counted-place, length-counted) (omega (arith, entry-inside (plan .desk) (plan .room))))
 
   pub last-kind : lastKind after ≡ kind
   unfolding lastKind rewritingEntry

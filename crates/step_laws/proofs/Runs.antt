@@ -1,13 +1,14 @@
 -- Any run of calls after an accepted load. A desk that calls have made is the load, or an accepted decision or rewriting on a desk that calls have made;
 -- taking back its last step gives the desk before it again, and a refused call the desk itself. So each call leads from a made desk to a made desk,
 -- and what a made desk is known by (well formed, clean, weights as on the table, the load followed by its standing steps) holds after every run.
-use Prim.Native.Nat.{ℕ, _+_}
+use Prim.Native.Nat.{ℕ, suc, _+_}
 use mathlib.Core.Path.{_≡_, refl, sym, ap, _∙_, subst₂}
 use mathlib.Core.Bool.{Bool, true, false, not}
 use mathlib.Core.List.{List, [], _∷_, _++_}
+use native.Mathlib.Numerals.{add-one}
 use native.Mathlib.Omega.{arith}
 use lib.Dec.{leb, ltb}
-use lib.ListN.{length}
+use lib.ListN.{length, replicate, length-append}
 use lib.IntN.{ℤ}
 use Rattle.rules.specs.declared.Refusal.{Refusal}
 use Rattle.rules.specs.declared.Refusal.the-variants.{BadDesk, TooManySteps, BadLiteral, BadNaming, BadFit, DeskFull, NothingStands}
@@ -21,8 +22,8 @@ use Rattle.rules.specs.Rewrite.{stored, given, wellNamed, wellFitted, rewriteWh
 use Rattle.rules.specs.TakeBack.{takeBackWhy, takeBackStep}
 use Rattle.rules.specs.Calls.{Call, decide, rewrite, takeBack, callWhy, callStep, unlessRefused, afterCall, afterCalls}
 use Rattle.step_laws.specs.Clean.{Clean}
-use Rattle.step_laws.specs.Standing.{withoutLast, stands, standingFrom, standingCalls, NeverTen}
-use Rattle.step_laws.proofs.Steps.{load-formed, load-clean, load-weighs, load-rest, decide-undone, decide-formed, decide-clean, decide-weighs, decide-keeps, rewrite-undone, rewrite-formed, rewrite-clean, rewrite-weighs, rewrite-keeps}
+use Rattle.step_laws.specs.Standing.{withoutLast, stands, standingFrom, standingCalls, AllFine, NeverTen}
+use Rattle.step_laws.proofs.Steps.{load-formed, load-clean, load-weighs, load-rest, decide-undone, decide-standing, decide-formed, decide-clean, decide-weighs, decide-keeps, rewrite-undone, rewrite-standing, rewrite-formed, rewrite-clean, rewrite-weighs, rewrite-keeps}
 
 -- a desk that calls have made, with the steps that stand on it
 pub data Made (start : List ℕ) : List ℕ → List Call → Type 0 where
@@ -164,6 +165,42 @@ module _ (start table : List ℕ) (base : Known start table start []) (nothing :
   run-never [] m = tt
   run-never (call ∷ calls) m = (never-ten m call, run-never calls (called m call))
 
+-- ---- what stands can be made again, and taken back
+
+module _ (start table : List ℕ) (base : Known start table start []) where
+  one-more-fine : (d : List ℕ) (calls : List Call) (call : Call) → AllFine d calls → callWhy (afterCalls d calls) call ≡ Fine → AllFine d (calls ++ (call ∷ []))
+  unfolding afterCalls
+  one-more-fine d [] call a e = (e, tt)
+  one-more-fine d (x ∷ calls) call a e = (a .0, one-more-fine (afterCall d x) calls call (a .1) e)
+
+  pub made-again : {d : List ℕ} {calls : List Call} → Made start d calls → AllFine start calls
+  made-again laid-out = tt
+  made-again (deciding {d} {calls} m l fine) = one-more-fine start calls (decide l) (made-again m) (rw (← known start table base m .replayed) fine)
+  made-again (rewriting {d} {calls} m kind named fine) = one-more-fine start calls (rewrite kind named) (made-again m) (rw (← known start table base m .replayed) fine)
+
+  pub made-standing : standing start ≡ 0 → {d : List ℕ} {calls : List Call} → Made start d calls → standing d ≡ length calls
+  made-standing z laid-out = z
+  made-standing z (deciding {d} {calls} m l fine) = decide-standing d l fine ∙ omega (arith, made-standing z m, length-append calls (decide l ∷ []))
+  made-standing z (rewriting {d} {calls} m kind named fine) = rewrite-standing d kind named fine ∙ omega (arith, made-standing z m, length-append calls (rewrite kind named ∷ []))
+
+  -- a taking back for each standing step
+  unwind : (d e : List ℕ) (calls : List Call) (call : Call) → takeBackWhy e ≡ Fine → takeBackStep e ≡ d → afterCalls d (replicate (length calls) takeBack) ≡ start
+      → afterCalls e (replicate (length (calls ++ (call ∷ []))) takeBack) ≡ start
+  unfolding afterCalls
+  unwind d e calls call fine back ih =
+      let n : length (calls ++ (call ∷ [])) ≡ suc (length calls) = length-append calls (call ∷ []) ∙ add-one (length calls) in
+      rw n (ap (λ (x : List ℕ). afterCalls x (replicate (length calls) takeBack)) (after-fine e takeBack fine ∙ back) ∙ ih)
+
+  pub unwound : {d : List ℕ} {calls : List Call} → Made start d calls → afterCalls d (replicate (length calls) takeBack) ≡ start
+  unfolding afterCalls
+  unwound laid-out = refl
+  unwound (deciding {d} {calls} m l fine) =
+      let u = decide-undone d l fine (known start table base m .clean) in
+      unwind d (decideStep d l) calls (decide l) (u .0) (u .1) (unwound m)
+  unwound (rewriting {d} {calls} m kind named fine) =
+      let u = rewrite-undone d kind named fine (known start table base m .clean) in
+      unwind d (rewriteStep d kind named) calls (rewrite kind named) (u .0) (u .1) (unwound m)
+
 -- ---- demand 3, for every accepted load and every run of calls
 
 module _ (n : ℕ) (table : List ℕ) (c : ℕ) (d : List ℕ) (fine : loadWhy n table c d ≡ Fine) (calls : List Call) where
@@ -194,6 +231,17 @@ module _ (n : ℕ) (table : List ℕ) (c : ℕ) (d : List ℕ) (fine : loadWhy n
   -- the desk is, word for word, the load followed by the steps that stand
   pub run-replays : afterCalls start calls ≡ afterCalls start (standingCalls start calls)
   run-replays = result .replayed
+
+  -- and each of these is accepted where it is made again
+  pub run-accepted : AllFine start (standingCalls start calls)
+  run-accepted = made-again start table base made
+
+  pub run-standing : standing (afterCalls start calls) ≡ length (standingCalls start calls)
+  run-standing = made-standing start table base (load-rest n table c d fine .0) made
+
+  -- taking back every standing step restores the load, word for word
+  pub run-unwinds : afterCalls (afterCalls start calls) (replicate (standing (afterCalls start calls)) takeBack) ≡ start
+  run-unwinds = rw run-standing (unwound start table base made)
 
   -- no call was refused with 10
   pub run-never-ten : NeverTen start calls

@@ -69,11 +69,15 @@ pub together-sound : {n : ℕ} {a b : Lits} → Sound n a → Sound n b → bitA
 unfolding together variablesOf
 together-sound {n} {a} {b} s t e =
     record {
-      once = apart-of (bitOr (a .positive) (b .positive)) (bitOr (a .negative) (b .negative)) (λ v h. not-so (λ k. both-ways v (or-cases (has (a .positive) v) (has (b .positive) v) (sym (has-or (a .positive) (b .positive) v) ∙ h)) (or-cases (has (a .negative) v) (has (b .negative) v) (sym (has-or (a .negative) (b .negative) v) ∙ k))));
+      once =
+          apart-of (bitOr (a .positive) (b .positive)) (bitOr (a .negative) (b .negative))
+          (λ v h. not-so (λ k. both-ways v (in-either (a .positive) (b .positive) v h) (in-either (a .negative) (b .negative) v k)));
       positives = or-lt n (a .positive) (b .positive) (s .positives) (t .positives);
       negatives = or-lt n (a .negative) (b .negative) (s .negatives) (t .negatives);
     }
   where
+    in-either : (x y v : ℕ) → has (bitOr x y) v ≡ true → (has x v ≡ true) ⊎ (has y v ≡ true)
+    in-either x y v h = or-cases (has x v) (has y v) (sym (has-or x y v) ∙ h)
     left : (x y v : ℕ) → has x v ≡ true → has (bitOr x y) v ≡ true
     left x y v h = has-or x y v ∙ rw h
 

@@ -1,24 +1,28 @@
 -- The laws of single steps, by call: undone, kept well formed and clean, weights kept. Each only puts together what the files below prove.
 -- An accepted call says that its desk is well formed, so no law asks for it again.
-use Prim.Native.Nat.{ℕ, _*_}
+use Prim.Native.Nat.{ℕ, _+_, _*_, _≤_}
 use mathlib.Core.Path.{_≡_, sym, _∙_}
 use mathlib.Core.Bool.{true}
 use mathlib.Core.List.{List}
 use native.Mathlib.Omega.{arith}
 use lib.IntN.{ℤ}
+use lib.ListN.{length}
 use Rattle.rules.specs.declared.Judged.the-variants.{Fine}
 use Rattle.rules.specs.Table.{weighs}
-use Rattle.rules.specs.Desk.{standing, conceded, decided, truths, wellFormed, loadWhy, loadStep, deskWeighs, keeps}
+use Rattle.rules.specs.Desk.{variables, weightOn, standing, conceded, decided, truths, wellFormed, loadWhy, loadStep, deskWeighs, keeps}
 use Rattle.rules.specs.Decide.{decideWhy, decideStep}
-use Rattle.rules.specs.Rewrite.{given, stored, empties, lightest, rewriteWhy, rewriteStep}
+use Rattle.rules.specs.Rewrite.{remnantOf, given, stored, empties, lightest, rewriteWhy, rewriteStep}
 use Rattle.rules.specs.TakeBack.{takeBackWhy, takeBackStep}
 use Rattle.step_laws.specs.Clean.{Clean}
-use Rattle.step_laws.proofs.Formed.{well}
+use Rattle.step_laws.specs.StepTable.{Fits}
+use Rattle.step_laws.proofs.Formed.{well, head-inside}
 use Rattle.step_laws.proofs.Verdicts.{decide-fine, rewrite-fine}
 use Rattle.step_laws.proofs.Weights.{missed, weighs-measured}
-use Rattle.step_laws.proofs.Rewritings.{step-rewritten, rewritten-head}
-use Rattle.step_laws.proofs.Decisions.{decision-undone, decision-fine, decided-formed, decided-clean, decided-measured, keeps-facts, kept-before}
-use Rattle.step_laws.proofs.Accepted.{plan, undone, back-fine, rewritten-formed, rewritten-clean, weights-kept}
+use Rattle.step_laws.proofs.Rewritings.{step-rewritten, rewritten-head, rewritten-standing}
+use Rattle.step_laws.proofs.Decisions.{decided-standing}
+use Rattle.step_laws.proofs.DecisionKept.{decision-undone, decision-fine, decided-formed, decided-clean, decided-measured, keeps-facts, kept-before}
+use Rattle.step_laws.proofs.Accepted.{remnants-sound, weight-no-more, plan, undone, back-fine, rewritten-formed, rewritten-clean, weights-kept}
+use Rattle.step_laws.proofs.Found.{fit-words}
 use Rattle.step_laws.proofs.Loads.{load-fine, loaded-formed, loaded-clean, loaded-weighs, loaded-rest}
 
 -- ---- load
@@ -42,6 +46,9 @@ module _ (d : List ℕ) (l : ℤ) (fine : decideWhy d l ≡ Fine) where
   pub decide-undone : Clean d → (takeBackWhy (decideStep d l) ≡ Fine) × (takeBackStep (decideStep d l) ≡ d)
   decide-undone clean = (decision-fine d l (decide-fine d l fine), decision-undone d l (decide-fine d l fine) clean)
 
+  pub decide-standing : standing (decideStep d l) ≡ standing d + 1
+  decide-standing = decided-standing d l (head-inside (decide-fine d l fine .desk))
+
   pub decide-formed : wellFormed (decideStep d l) ≡ true
   decide-formed = well (decided-formed d l (decide-fine d l fine))
 
@@ -64,6 +71,22 @@ module _ (d : List ℕ) (kind : ℕ) (named : List ℕ) (fine : rewriteWhy d kin
       let ok = rewrite-fine d kind named fine in
       rw (step-rewritten d kind named) (back-fine d kind named ok clean, undone d kind named ok clean)
 
+  pub rewrite-standing : standing (rewriteStep d kind named) ≡ standing d + 1
+  rewrite-standing =
+      let w : ℕ = lightest d named in
+      rw (step-rewritten d kind named) (rewritten-standing d kind w named (stored (given d kind named)) (w * empties (given d kind named)) (plan d kind named (rewrite-fine d kind named fine)))
+
+  -- its remnants fit, in document 01's words, and what it gives is what the step table says
+  pub rewrite-in-words : Fits (remnantOf d named) kind (length named) (given d kind named)
+  unfolding given
+  rewrite-in-words =
+      let ok = rewrite-fine d kind named fine in
+      fit-words (variables d) (ok .desk .named) (remnantOf d named) kind (length named) (ok .known .0) (ok .known .1) (ok .counted) (remnants-sound d kind named ok) (ok .fitted)
+
+  -- conceded plus all weights in use does not grow
+  pub rewrite-no-heavier : weightOn (rewriteStep d kind named) ≤ weightOn d
+  rewrite-no-heavier = rw (step-rewritten d kind named) (weight-no-more d kind named (rewrite-fine d kind named fine))
+
   pub rewrite-formed : wellFormed (rewriteStep d kind named) ≡ true
   rewrite-formed = rw (step-rewritten d kind named) (well (rewritten-formed d kind named (rewrite-fine d kind named fine)))
 
@@ -84,7 +107,7 @@ module _ (d : List ℕ) (kind : ℕ) (named : List ℕ) (fine : rewriteWhy d kin
       let head = rewritten-head d kind w named (stored (given d kind named)) (w * empties (given d kind named)) p in
       rw (
         step-rewritten d kind named,
-        head 0 (omega arith) (λ q. omega arith) (λ q. omega arith) (λ q. omega arith),
-        head 5 (omega arith) (λ q. omega arith) (λ q. omega arith) (λ q. omega arith),
-        head 6 (omega arith) (λ q. omega arith) (λ q. omega arith) (λ q. omega arith),
+        head 0 (omega arith),
+        head 5 (omega arith),
+        head 6 (omega arith),
       )

@@ -1,42 +1,32 @@
 -- Any accepted taking back leaves a well-formed clean desk well formed and clean, also one that no call has made.
 -- What the judge of the last entry found gives the bounds: named rows lie below the first new row, that is not below the rows loaded
 -- nor above the rows in use, and (d) was looked at afterwards.
-use Prim.Native.Nat.{ℕ, zero, suc, _+_, _-_, _*_, _≤_, _<_, _^_}
-use mathlib.Core.Path.{_≡_, refl, sym, ap, _∙_}
-use mathlib.Core.Logic.{_⊎_, inl, inr, ⊎-elim}
+use Prim.Native.Nat.{ℕ, _+_, _-_, _≤_, _<_}
+use mathlib.Core.Path.{_≡_}
+use mathlib.Core.Logic.{⊎-elim}
 use mathlib.Core.Bool.{Bool, true, false, cond, not, _&&_, _||_}
 use mathlib.Core.List.{List}
-use native.Mathlib.Nat.{le-trans}
 use native.Mathlib.Omega.{arith}
-use borrow.Author.Tests.{ltb-true, ltb-false, leb-true, eqb-true, eqb-false, not-true, not-false}
-use lib.Dec.{eqb, leb, ltb}
-use lib.ListN.{length, getD, set, length-set}
-use lib.Seq.{getD-set-same, getD-set-other}
-use Rattle.masks.specs.Masks.{has, without, single}
+use borrow.Author.Tests.{ltb-true, ltb-false, leb-true, eqb-true, eqb-false, not-false}
+use lib.Dec.{eqb, ltb}
+use lib.ListN.{getD}
+use Rattle.masks.specs.Masks.{single}
 use Rattle.masks.specs.Sums.{every}
-use Rattle.masks.specs.Words.{zeroed}
-use Rattle.masks.proofs.Choice.{cases, lt-or-le, clash, not-so, and-left, and-right, or-cases}
-use Rattle.masks.proofs.Bits.{has-without}
-use Rattle.masks.proofs.Sets.{within, within-of, without-lt}
+use Rattle.masks.proofs.Choice.{cases, and-right, or-cases}
 use Rattle.masks.proofs.Sums.{every-at}
-use Rattle.masks.proofs.Words.{zeroed-before, zeroed-out, zeroed-in, length-zeroed}
-use Rattle.literals.specs.declared.Lits.{Lits}
-use Rattle.rules.specs.declared.Row.{Row}
 use Rattle.rules.specs.declared.Refusal.the-variants.{BadDesk, NothingStands}
 use Rattle.rules.specs.declared.Judged.the-variants.{Fine}
 use Rattle.rules.specs.Refusals.{refuse}
 use Rattle.rules.specs.Table.{mostWeight}
-use Rattle.rules.specs.Desk.{headWords, variables, inUse, capacity, standing, conceded, decided, truths, loaded, entryWords, mostSteps, rowPlace, entryPlace, deskWords, rowOn, weightOn, weightFits, wellFormed}
-use Rattle.rules.specs.Rewrite.{fewest, fewerAdded, countFits, distinct, reweighed}
-use Rattle.rules.specs.TakeBack.{lastPlace, lastKind, lastVariable, lastWeight, lastCount, lastNamed, lastFirst, mergedEmpty, lastConceded, withdrawn, undoDecision, undoRewriting, takeBackStep, badDecision, badRewriting, badLast, takeBackWhy}
+use Rattle.rules.specs.Desk.{headWords, inUse, capacity, standing, conceded, loaded, weightOn, weightFits, wellFormed}
+use Rattle.rules.specs.Rewrite.{fewest, fewerAdded, countFits, distinct}
+use Rattle.rules.specs.TakeBack.{lastKind, lastVariable, lastWeight, lastCount, lastNamed, lastFirst, mergedEmpty, lastConceded, undoDecision, undoRewriting, takeBackStep, badDecision, badRewriting, badLast, takeBackWhy}
 use Rattle.step_laws.specs.Clean.{Clean}
-use Rattle.step_laws.proofs.Formed.{Sound, Formed, formed, well, place-mono}
-use Rattle.step_laws.proofs.Stores.{row-same, row-head, length-reweighed, reweighed-out, reweighed-lits}
-use Rattle.step_laws.proofs.Verdicts.{past, neither}
-use Rattle.step_laws.proofs.Entries.{entry-fits, entry-past, row-past-head, length-withdrawn, withdrawn-standing, withdrawn-in, withdrawn-out}
-use Rattle.step_laws.proofs.Weights.{measured, measured-same, weight-measured}
+use Rattle.step_laws.proofs.Formed.{neither, head-inside, Formed, formed, well}
+use Rattle.step_laws.proofs.Verdicts.{past}
 use Rattle.step_laws.proofs.ByKind.{by-kind, counted}
-use Rattle.step_laws.proofs.Freed.{withdrawn-weight, withdrawn-formed, withdrawn-clean, unset, unset-out, unset-formed, unset-clean, emptied, emptied-use, emptied-head, emptied-formed, emptied-clean}
+use Rattle.step_laws.proofs.Undoing.{unset, unset-out, emptied, emptied-use, emptied-head}
+use Rattle.step_laws.proofs.Freed.{withdrawn-weight, withdrawn-formed, withdrawn-clean, unset-formed, unset-clean, freed-formed, freed-clean}
 
 -- an accepted taking back: the desk is well formed, a step stands, and the last entry is not bad
 pub record Taken (d : List ℕ) : Type 0 where
@@ -103,8 +93,8 @@ module _ (d : List ℕ) (clean : Clean d) (fine : takeBackWhy d ≡ Fine) where
   unfolding undoDecision
   decision-kept t =
       let v : ℕ = single (lastVariable d - 1) in
-      let e : List ℕ = unset d (t .desk) v in
-      let some : 1 ≤ standing e = rw (unset-out d (t .desk) v 3 (λ q. omega arith) (λ q. omega arith)) (t .some) in
+      let e : List ℕ = unset d v in
+      let some : 1 ≤ standing e = rw (unset-out d v 3 (λ q. omega arith) (λ q. omega arith)) (t .some) in
       (well (withdrawn-formed e (unset-formed d (t .desk) v) some), withdrawn-clean e (unset-formed d (t .desk) v) some (unset-clean d (t .desk) v clean))
 
   rewriting-kept : Taken d → Entered d → Kept (undoRewriting d)
@@ -113,19 +103,19 @@ module _ (d : List ℕ) (clean : Clean d) (fine : takeBackWhy d ≡ Fine) where
       let f = t .desk in
       let w : ℕ = lastWeight d in
       let c : ℕ = conceded d - lastConceded d in
-      let e : List ℕ = emptied d f w (lastNamed d) (lastCount d) (lastFirst d) c (n .loads) (n .fits) (n .below) in
-      let head : (p : ℕ) → p < headWords → (p ≡ 1 → ⊥) → (p ≡ 4 → ⊥) → getD e p 0 ≡ getD d p 0 = emptied-head d f w (lastNamed d) (lastCount d) (lastFirst d) c (n .loads) (n .fits) (n .below) in
-      let some : 1 ≤ standing e = rw (head 3 (omega arith) (λ q. omega arith) (λ q. omega arith)) (t .some) in
-      let cap : capacity e ≡ capacity d = head 2 (omega arith) (λ q. omega arith) (λ q. omega arith) in
-      let rows : inUse e ≡ lastFirst d = emptied-use d f w (lastNamed d) (lastCount d) (lastFirst d) c (n .loads) (n .fits) (n .below) in
+      let e : List ℕ = emptied d w (lastNamed d) (lastCount d) (lastFirst d) (inUse d - lastFirst d) c in
+      let head : (p : ℕ) → (p < headWords) × (p ≡ 1 → ⊥) × (p ≡ 4 → ⊥) → getD e p 0 ≡ getD d p 0 = emptied-head d w (lastNamed d) (lastCount d) (lastFirst d) (inUse d - lastFirst d) c in
+      let some : 1 ≤ standing e = rw (head 3 (omega arith)) (t .some) in
+      let cap : capacity e ≡ capacity d = head 2 (omega arith) in
+      let rows : inUse e ≡ lastFirst d = emptied-use d w (lastNamed d) (lastCount d) (lastFirst d) (inUse d - lastFirst d) c (head-inside f) in
       let light : weightOn e ≤ mostWeight =
       rw (withdrawn-weight e (omega (arith, f .fitting, n .fits))) at (leb-true (weightOn (undoRewriting d)) mostWeight (n .light)) in
-      let g : Formed e = emptied-formed d f w (lastNamed d) (lastCount d) (lastFirst d) c (n .loads) (n .fits) (n .below) light in
-      (well (withdrawn-formed e g some), withdrawn-clean e g some (emptied-clean d f w (lastNamed d) (lastCount d) (lastFirst d) c (n .loads) (n .fits) (n .below) clean))
+      let g : Formed e = freed-formed d f w (lastNamed d) (lastCount d) (lastFirst d) c (n .loads) (n .fits) (n .below) light in
+      (well (withdrawn-formed e g some), withdrawn-clean e g some (freed-clean d f w (lastNamed d) (lastCount d) (lastFirst d) c (n .loads) (n .fits) (n .below) clean))
 
-  pub take-back-kept : Kept (takeBackStep d)
+  kept : Kept (takeBackStep d)
   unfolding takeBackStep badLast
-  take-back-kept =
+  kept =
       let t = take-back-fine d fine in
       let parts = neither (ltb 4 (lastKind d)) (cond (eqb (lastKind d) 0) (badDecision d) (badRewriting d)) (t .entry) in
       ⊎-elim
@@ -134,3 +124,9 @@ module _ (d : List ℕ) (clean : Clean d) (fine : takeBackWhy d ≡ Fine) where
       let some : 1 ≤ lastKind d = omega (arith, eqb-false (lastKind d) 0 q) in
       rw q (rewriting-kept t (entry-fine d some (ltb-false 4 (lastKind d) (parts .0)) (rw q at (parts .1)))))
       (cases (eqb (lastKind d) 0))
+
+  pub take-back-formed : wellFormed (takeBackStep d) ≡ true
+  take-back-formed = kept .0
+
+  pub take-back-clean : Clean (takeBackStep d)
+  take-back-clean = kept .1

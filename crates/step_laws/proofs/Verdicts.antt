@@ -2,7 +2,7 @@
 -- The facts of an accepted decision and of an accepted rewriting follow, as records of plain facts.
 use Prim.Native.Nat.{ℕ, _+_, _-_, _≤_, _<_}
 use mathlib.Core.Path.{_≡_, refl}
-use mathlib.Core.Bool.{Bool, true, false, not, _&&_, _||_, true≢false}
+use mathlib.Core.Bool.{Bool, true, false, not, _&&_, _||_}
 use mathlib.Core.List.{List}
 use native.Mathlib.Omega.{arith}
 use borrow.Author.Tests.{ltb-true, ltb-false, leb-true, leb-false, eqb-false, not-true, not-false}
@@ -14,6 +14,7 @@ use Rattle.masks.specs.Sums.{every}
 use Rattle.masks.proofs.Choice.{and-left, and-right}
 use Rattle.masks.proofs.Sums.{every-at}
 use Rattle.literals.specs.Literal.{size, isLiteral}
+use Rattle.rules.specs.declared.Row.{Row}
 use Rattle.rules.specs.declared.Refusal.{Refusal}
 use Rattle.rules.specs.declared.Refusal.the-variants.{BadDesk, TooManySteps, BadLiteral, BadNaming, BadFit, DeskFull}
 use Rattle.rules.specs.declared.Judged.{Judged}
@@ -22,7 +23,7 @@ use Rattle.rules.specs.Refusals.{refuse, inOrder}
 use Rattle.rules.specs.Desk.{variables, inUse, capacity, standing, decided, mostSteps, wellFormed, decisions, satisfied, rowOn, spent}
 use Rattle.rules.specs.Decide.{badLiteral, decideWhy}
 use Rattle.rules.specs.Rewrite.{countFits, distinct, wellNamed, remnantOf, fits, stored, given, wellFitted, rewriteWhy}
-use Rattle.step_laws.proofs.Formed.{Formed, formed}
+use Rattle.step_laws.proofs.Formed.{Formed, formed, neither}
 use Rattle.step_laws.proofs.Stores.{Distinct}
 
 -- ---- a refusal, or what comes after it
@@ -37,10 +38,6 @@ past false r after e = (refl, e)
 pub past-both : (a b : Judged) → inOrder a b ≡ Fine → (a ≡ Fine) × (b ≡ Fine)
 past-both Fine b e = (refl, e)
 past-both (Refused r) b e = absurd (fine-not-refused r e)
-
-pub neither : (a b : Bool) → (a || b) ≡ false → (a ≡ false) × (b ≡ false)
-neither true b e = absurd (true≢false e)
-neither false b e = (refl, e)
 
 -- ---- an accepted decision
 
@@ -108,8 +105,9 @@ rewrite-fine d kind named e =
     let n3 = and-right (countFits kind n) (used && apart) n2 in
     let fitting = not-false fit (f .0) in
     let rows = every-at n good (and-left (every n good) (fits kind n (remnantOf d named)) fitting) in
-    let each : (i : ℕ) → i < n → (spent (rowOn d (getD named i 0)) ≡ false) × (satisfied (decisions d) (rowOn d (getD named i 0) .lits) ≡ false) =
-    λ i l. neither (spent (rowOn d (getD named i 0))) (satisfied (decisions d) (rowOn d (getD named i 0) .lits)) (not-true (spent (rowOn d (getD named i 0)) || satisfied (decisions d) (rowOn d (getD named i 0) .lits)) (rows i l)) in
+    let row : ℕ → Row = λ i. rowOn d (getD named i 0) in
+    let each : (i : ℕ) → i < n → (spent (row i) ≡ false) × (satisfied (decisions d) (row i .lits) ≡ false) =
+    λ i l. neither (spent (row i)) (satisfied (decisions d) (row i .lits)) (not-true (spent (row i) || satisfied (decisions d) (row i .lits)) (rows i l)) in
     record {
       desk = formed d (not-false (wellFormed d) (a .0));
       room = leb-false mostSteps (standing d) (b .0);

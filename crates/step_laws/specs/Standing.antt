@@ -28,6 +28,11 @@ standingFrom d before (call ∷ calls) = standingFrom (afterCall d call) (stands
 unfoldable pub standingCalls : List ℕ → List Call → List Call
 standingCalls d calls = standingFrom d [] calls
 
+-- every call of the run is accepted
+abbrev pub AllFine : List ℕ → List Call → Type 0
+AllFine d [] = Unit
+AllFine d (call ∷ calls) = (callWhy d call ≡ Fine) × AllFine (afterCall d call) calls
+
 -- "calls alone .. never bring about a 10": no call of the run is refused so
 abbrev pub NeverTen : List ℕ → List Call → Type 0
 NeverTen d [] = Unit
