@@ -1,2 +1,4 @@
 pub mod Scans
 pub mod Walks
+pub mod Counting
+pub mod Meeting

@@ -139,3 +139,21 @@ least-of-all {weight} {qs} l q m =
     (λ f. omega (arith, l .inFront q f))
     (each {P = λ r. weight (l .leaf) ≤ weight r} (omega arith) (l .behind) q)
     (List·Memᴰ·append-cases (l .front) split)
+
+-- a scan never raises the best, and what is kept stays kept
+take-best : (w r : ℕ) (c : Chosen) → take w r c .best ≤ c .best
+take-best w r c =
+    ⊎-elim (λ h. rw (take-taken w r c h) (omega arith)) (λ h. rw (take-passed w r c h) (omega arith)) (lt-or-le w (c .best))
+
+take-kept : (w r : ℕ) (c : Chosen) → c .kept ≡ true → take w r c .kept ≡ true
+take-kept w r c k = ⊎-elim (λ h. rw (take-taken w r c h)) (λ h. rw (take-passed w r c h) k) (lt-or-le w (c .best))
+
+pub scan-best : (weight : Part → ℕ) (qs : List Part) (c : Chosen) → scan weight qs c .best ≤ c .best
+unfolding scan
+scan-best weight [] c = omega arith
+scan-best weight (q ∷ qs) c = omega (arith, scan-best weight qs (take (weight q) (q .truths) c), take-best (weight q) (q .truths) c)
+
+pub scan-kept : (weight : Part → ℕ) (qs : List Part) (c : Chosen) → c .kept ≡ true → scan weight qs c .kept ≡ true
+unfolding scan
+scan-kept weight [] c k = k
+scan-kept weight (q ∷ qs) c k = scan-kept weight qs (take (weight q) (q .truths) c) (take-kept (weight q) (q .truths) c k)

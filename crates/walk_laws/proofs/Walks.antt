@@ -54,6 +54,12 @@ below-leaf first (there {v = v} {vs = vs} {p = p} {q = q} value b) =
     (λ e l. Memᴰ·append-right (leaves first vs (fixed p v (first v))) l)
     (below-leaf first b)
 
+-- a leaf below a node is a node
+pub below-node : {nodes : List ℕ → Part → Type 0} {bound : Part → ℕ} {weight : ℕ → ℕ} {vs : List ℕ} {p q : Part} → Sound nodes bound weight
+    → nodes vs p → Below vs p q → nodes [] q
+below-node sound n here = n
+below-node sound n (there value b) = below-node sound (sound .deeper n value) b
+
 module _ (bound : Part → ℕ) (first : ℕ → Bool) (budget : ℕ) where
   -- ---- stopped stays
 

@@ -78,3 +78,8 @@ pub record Least (weight : Part → ℕ) (qs : List Part) (best : ℕ) (c : Chos
   pub less : weight leaf < best
   pub inFront : (q : Part) → List·Memᴰ q front → weight leaf < weight q
   pub behind : (q : Part) → List·Memᴰ q rest → weight leaf ≤ weight q
+
+-- The count is at most the budget, and is the budget where the walk is stopped.
+pub record WithinBudget (budget : ℕ) (s : Walked) : Type 0 where
+  pub within : s .nodes ≤ budget
+  pub atStop : s .stopped ≡ true → s .nodes ≡ budget
