@@ -1,14 +1,15 @@
 -- What a walk is measured by: all leaves below a node, in the walk's order, and a scan of them, which looks at each and cuts none.
 -- Both are over any bound, any weight of a full reading and any value tried first.
-use Prim.Native.Nat.{ℕ, _≤_, _<_}
+use Prim.Native.Nat.{ℕ, _^_, _≤_, _<_}
 use mathlib.Core.Path.{_≡_}
 use mathlib.Core.List.{List, [], _∷_, _++_, List·Memᴰ}
 use mathlib.Core.Bool.{Bool, true, cond, not}
+use lib.Bits.{bitAnd}
 use lib.Dec.{leb, ltb}
-use Rattle.masks.specs.Masks.{has}
+use Rattle.masks.specs.Masks.{has, without}
 use Rattle.rules.specs.declared.Part.{Part}
 use Rattle.rules.specs.declared.Walked.{Walked}
-use Rattle.rules.specs.Walk.{fixed, visited, walk}
+use Rattle.rules.specs.Walk.{fixed, visited, walk, undecided}
 
 -- all full readings below a node whose variables left are vs: the value tried first, then the other
 unfoldable pub leaves : (ℕ → Bool) → List ℕ → Part → List Part
@@ -61,12 +62,10 @@ pub record Before (first : ℕ → Bool) (a b : ℕ) : Type 0 where
   pub mine : has a place ≡ first place
   pub other : has b place ≡ not (first place)
 
--- q stands somewhere in front of r in a list
-pub record Earlier (qs : List Part) (q r : Part) : Type 0 where
-  pub front : List Part
-  pub between : List Part
-  pub rest : List Part
-  pub stands : qs ≡ front ++ (q ∷ (between ++ (r ∷ rest)))
+-- q stands somewhere in front of r in a list: q at its head and r behind, or both behind the head
+pub data Earlier : List Part → Part → Part → Type 0 where
+  headed : {x q r : Part} {qs : List Part} → q ≡ x → List·Memᴰ r qs → Earlier (x ∷ qs) q r
+  behind : {x q r : Part} {qs : List Part} → Earlier qs q r → Earlier (x ∷ qs) q r
 
 -- Of a list of leaves, one is kept: it weighs less than a best, less than each leaf in front of it and no more than each behind it.
 pub record Least (weight : Part → ℕ) (qs : List Part) (best : ℕ) (c : Chosen) : Type 0 where
@@ -83,3 +82,15 @@ pub record Least (weight : Part → ℕ) (qs : List Part) (best : ℕ) (c : Chos
 pub record WithinBudget (budget : ℕ) (s : Walked) : Type 0 where
   pub within : s .nodes ≤ budget
   pub atStop : s .stopped ≡ true → s .nodes ≡ budget
+
+-- a full reading that gives the decided variables of a partial one the values they have there
+abbrev pub Extends : Part → ℕ → Type 0
+Extends p reading = bitAnd reading (p .decided) ≡ p .truths
+
+-- A node of document 01's walk over n variables: what is true is decided, what is decided is a variable, and the variables left are
+-- those that are not, in rising order.
+pub record Node (n : ℕ) (vs : List ℕ) (p : Part) : Type 0 where
+  pub fits : n ≤ 64
+  pub nested : without (p .truths) (p .decided) ≡ 0
+  pub within : p .decided < 2 ^ n
+  pub left : undecided n (p .decided) ≡ vs
