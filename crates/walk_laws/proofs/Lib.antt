@@ -6,3 +6,5 @@ pub mod Remnants
 pub mod Bounds
 pub mod Undecided
 pub mod Nodes
+pub mod Orders
+pub mod Done
