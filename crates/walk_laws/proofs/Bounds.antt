@@ -2,14 +2,14 @@
 -- Of each variable's two sums one is of rows that the reading misses, and the smaller is no more than that one. Summed by rows, not by
 -- variables, each row is counted once at most (`row-once`). Where all is decided no remnant is left, and nothing is foreseen.
 use Prim.Native.Nat.{ℕ, _+_, _^_, _≤_, _<_, min}
-use mathlib.Core.Path.{_≡_, refl, sym, ap, ap₂, _∙_}
+use mathlib.Core.Path.{_≡_, refl, sym, ap}
 use mathlib.Core.List.{List}
 use mathlib.Core.Bool.{Bool, true, false, cond, not, _&&_, _||_}
 use native.Mathlib.Nat.{min-le-left, min-le-right}
 use native.Mathlib.Omega.{arith}
 use borrow.Author.Tests.{not-true}
 use lib.Bits.{bitAnd}
-use Rattle.masks.specs.Masks.{has, without, none, below}
+use Rattle.masks.specs.Masks.{has, none, below}
 use Rattle.masks.specs.Sums.{sum}
 use Rattle.masks.proofs.Choice.{and-left, and-right}
 use Rattle.masks.proofs.Sums.{sum-zero, sum-ext, sum-add, sum-le, sum-swap, every-at}
@@ -18,13 +18,12 @@ use Rattle.masks.proofs.Sets.{within-of}
 use Rattle.literals.specs.declared.Lits.{Lits}
 use Rattle.literals.specs.Lits.{isEmpty, sameLits}
 use Rattle.literals.proofs.TwoMasks.{masks-empty}
-use Rattle.rules.specs.declared.Row.{Row}
 use Rattle.rules.specs.declared.Part.{Part}
 use Rattle.rules.specs.Table.{badLits, holds, givenUp}
 use Rattle.rules.specs.Desk.{variables, inUse, conceded, rowOn, rowsSound, satisfied, remnant, deskWeighs, weightOn}
 use Rattle.rules.specs.Bound.{weightWhere, lostBeyond, lost, unitWeight, foreseenAt, foreseen, bound}
 use Rattle.walk_laws.specs.Scan.{Extends}
-use Rattle.walk_laws.proofs.Remnants.{unit, missedAt, missedUnit, holds-split, holds-empty, empty-missed, row-once}
+use Rattle.walk_laws.proofs.Remnants.{unit, missedAt, holds-split, holds-empty, empty-missed, row-once}
 
 -- ---- lost
 

@@ -1,11 +1,11 @@
 -- The count of nodes: never above the budget, at the budget where the walk is stopped, and risen by 1 at least where a node is entered.
 -- A walk that is not stopped was refused no node, so that a larger budget changes nothing in it.
 -- All by induction on the variables left, with the three ways in which a node that is due can go.
-use Prim.Native.Nat.{ℕ, zero, suc, _+_, _^_, _≤_, _<_}
-use mathlib.Core.Path.{_≡_, refl, sym, ap, _∙_}
+use Prim.Native.Nat.{ℕ, suc, _+_, _^_, _≤_, _<_}
+use mathlib.Core.Path.{_≡_, refl, ap, _∙_}
 use mathlib.Core.List.{List, [], _∷_}
-use mathlib.Core.Bool.{Bool, true, false, cond, not}
-use native.Mathlib.Nat.{pow-suc, le-refl}
+use mathlib.Core.Bool.{Bool, false, not}
+use native.Mathlib.Nat.{pow-suc}
 use native.Mathlib.Omega.{arith}
 use borrow.Author.Tests.{lt-ltb, le-leb, lt-leb}
 use lib.ListN.{length}

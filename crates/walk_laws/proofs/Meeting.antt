@@ -37,7 +37,7 @@ entered-met P budget b s beyond qs refused cut on =
     go false c f g h = f refl
 
 -- a member of a part of a list is one of the list
-member-of-sublist : {qs rs : List Part} {q : Part} → Sublistᴰ qs rs → List·Memᴰ q qs → List·Memᴰ q rs
+pub member-of-sublist : {qs rs : List Part} {q : Part} → Sublistᴰ qs rs → List·Memᴰ q qs → List·Memᴰ q rs
 member-of-sublist Sublistᴰ·slnil m = m
 member-of-sublist (Sublistᴰ·cons s) m = List·Memᴰ·tail (member-of-sublist s m)
 member-of-sublist (Sublistᴰ·cons-cons e s) m =

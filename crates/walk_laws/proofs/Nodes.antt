@@ -1,6 +1,6 @@
 -- The nodes of document 01's walk. A leaf below a node extends it: fixing a variable that is not decided keeps the values of those that
 -- are. And every full reading that extends a node is a leaf below it: give each variable in turn the value that the reading has.
-use Prim.Native.Nat.{ℕ, _^_, _≤_, _<_}
+use Prim.Native.Nat.{ℕ, _^_, _<_}
 use mathlib.Core.Path.{_≡_, refl, sym, ap, _∙_}
 use mathlib.Core.List.{List, [], _∷_}
 use mathlib.Core.Bool.{Bool, true, false, _&&_, and-true, and-false}

@@ -1,9 +1,9 @@
 -- The leaves stand in the order of readings: one stands earlier than another exactly where it is before it.
 -- At a node, the leaves of the first branch and those of the second agree on all lower variables, which are decided, and differ in the
 -- node's variable. Since nothing is before itself, and no two readings are each before the other, each reading is there once.
-use Prim.Native.Nat.{ℕ, _<_, _≤_}
+use Prim.Native.Nat.{ℕ}
 use mathlib.Core.Path.{_≡_, refl, sym, ap, _∙_, subst}
-use mathlib.Core.List.{List, [], _∷_, _++_, List·Memᴰ, List·Memᴰ·head, List·Memᴰ·tail, List·Memᴰ·not-nil, List·Memᴰ·cases-cons, List·Memᴰ·append-cases, Memᴰ·cast}
+use mathlib.Core.List.{List, [], _∷_, _++_, List·Memᴰ, List·Memᴰ·head, List·Memᴰ·tail, List·Memᴰ·not-nil, List·Memᴰ·cases-cons, List·Memᴰ·append-cases}
 use mathlib.Core.Bool.{Bool, true, false, not, _&&_, and-true}
 use mathlib.Core.Logic.{_⊎_, inl, inr, ⊎-elim}
 use native.Mathlib.Omega.{arith}
@@ -12,7 +12,7 @@ use Rattle.masks.proofs.Choice.{lt-or-le, eq-or-ne, clash}
 use Rattle.masks.proofs.Bits.{has-and}
 use Rattle.rules.specs.declared.Part.{Part}
 use Rattle.rules.specs.Walk.{fixed}
-use Rattle.walk_laws.specs.Scan.{leaves, Below, Extends, Before, Earlier, headed, behind, Node}
+use Rattle.walk_laws.specs.Scan.{leaves, Extends, Before, Earlier, headed, behind, Node}
 use Rattle.walk_laws.proofs.Walks.{leaf-below}
 use Rattle.walk_laws.proofs.Nodes.{node-next, node-deeper, extends-less, extends-value, leaf-extends}
 

@@ -12,13 +12,13 @@ use lib.Bits.{bitAnd, bitOr, and-comm, and-zero-l}
 use lib.Pow.{pow-pos}
 use Rattle.masks.specs.Masks.{has, without, none, single}
 use Rattle.masks.specs.Sums.{sum}
-use Rattle.masks.proofs.Choice.{cases, clash, same-test, and-left, and-right, both, same3, cond-elim, cond-same}
-use Rattle.masks.proofs.Sums.{downwards, sum-zero, sum-suc}
-use Rattle.masks.proofs.Bits.{has-ext, has-and, has-or, has-without, has-lt}
-use Rattle.masks.proofs.Sets.{zero-without, without-zero, or-empty, within-of, and-pow-apart, pow-within, single-pow, pow-inj, none-zero, zero-none}
+use Rattle.masks.proofs.Choice.{same-test, and-left, and-right, both, same3, cond-elim}
+use Rattle.masks.proofs.Sums.{downwards, sum-zero}
+use Rattle.masks.proofs.Bits.{has-ext, has-and, has-or, has-without}
+use Rattle.masks.proofs.Sets.{zero-without, or-empty, and-pow-apart, pow-within, single-pow, pow-inj, none-zero, zero-none}
 use Rattle.literals.specs.declared.Lits.{Lits}
 use Rattle.literals.specs.Lits.{isEmpty, sameLits}
-use Rattle.literals.proofs.TwoMasks.{same-eq, empty-masks, masks-empty}
+use Rattle.literals.proofs.TwoMasks.{same-eq, empty-masks}
 use Rattle.rules.specs.declared.Row.{Row}
 use Rattle.rules.specs.declared.Part.{Part}
 use Rattle.rules.specs.Table.{holds, givenUp}

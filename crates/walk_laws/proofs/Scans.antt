@@ -2,13 +2,12 @@
 -- more than all behind it. By induction on the list: a leaf is taken exactly where it is below the best so far.
 use Prim.Native.Nat.{ℕ, _≤_, _<_}
 use mathlib.Core.Path.{_≡_, refl, sym, ap, _∙_, subst}
-use mathlib.Core.List.{List, [], _∷_, _++_, List·Memᴰ, List·Memᴰ·head, List·Memᴰ·tail, List·Memᴰ·not-nil, List·Memᴰ·cases-cons, List·Memᴰ·append-cases, Memᴰ·cast}
-use mathlib.Core.Bool.{Bool, true, false, cond, not}
+use mathlib.Core.List.{List, [], _∷_, _++_, List·Memᴰ, List·Memᴰ·head, List·Memᴰ·tail, List·Memᴰ·not-nil, List·Memᴰ·cases-cons, List·Memᴰ·append-cases}
+use mathlib.Core.Bool.{true}
 use mathlib.Core.Logic.{_⊎_, inl, inr, ⊎-elim}
 use native.Mathlib.Omega.{arith}
-use borrow.Author.Tests.{leb-true, leb-false, le-leb, lt-leb}
-use lib.Dec.{leb}
-use Rattle.masks.proofs.Choice.{cases, lt-or-le, cond-true, cond-false}
+use borrow.Author.Tests.{le-leb, lt-leb}
+use Rattle.masks.proofs.Choice.{lt-or-le}
 use Rattle.rules.specs.declared.Part.{Part}
 use Rattle.walk_laws.specs.Scan.{Chosen, take, scan, Least}
 

@@ -5,13 +5,13 @@ use mathlib.Core.Path.{_≡_, refl, sym, ap, ap₂, _∙_}
 use mathlib.Core.List.{List, [], _∷_, _++_, append-nil, concat-ne-nil, head-eq-of-cons-eq, tail-eq-of-cons-eq, nil≢cons}
 use mathlib.Core.Bool.{Bool, true, false, cond}
 use mathlib.Core.Logic.{⊎-elim}
-use native.Mathlib.Nat.{le-refl, le-step, le-of-suc-le-suc, eq-or-lt-of-le, not-suc-le-zero}
+use native.Mathlib.Nat.{le-refl, le-of-suc-le-suc, eq-or-lt-of-le, not-suc-le-zero}
 use native.Mathlib.Omega.{arith}
 use lib.Bits.{bitOr}
 use lib.ListN.{length, length-append}
 use Rattle.masks.specs.Masks.{bit, has, count}
 use Rattle.masks.specs.Sums.{sum, every}
-use Rattle.masks.proofs.Choice.{cases, clash}
+use Rattle.masks.proofs.Choice.{cases}
 use Rattle.masks.proofs.Sums.{downwards, upwards, every-at, every-fails}
 use Rattle.masks.proofs.Bits.{bit-one, bit-none}
 use Rattle.masks.proofs.Sets.{has-put-same, has-put-other}

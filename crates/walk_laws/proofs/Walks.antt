@@ -1,11 +1,11 @@
 -- A finished walk is a scan of all leaves below its node, for any sound bound. By induction on the variables left: a node that is cut has
 -- only leaves that the scan passes over, a node that is not is its two branches, and a leaf is taken where it is not cut.
 -- A walk that has stopped stays stopped, so no node of a finished walk was refused by the budget.
-use Prim.Native.Nat.{ℕ, _+_, _≤_, _<_}
+use Prim.Native.Nat.{ℕ, _≤_, _<_}
 use mathlib.Core.Path.{_≡_, refl, sym, ap, _∙_, subst}
-use mathlib.Core.List.{List, [], _∷_, _++_, List·Memᴰ, List·Memᴰ·append-cases, List·Memᴰ·eq-of-singleton, Memᴰ·append-left, Memᴰ·append-right, List·Memᴰ·head}
+use mathlib.Core.List.{List, [], _∷_, List·Memᴰ, List·Memᴰ·append-cases, List·Memᴰ·eq-of-singleton, Memᴰ·append-left, Memᴰ·append-right, List·Memᴰ·head}
 use mathlib.Core.Bool.{Bool, true, false, cond, not}
-use mathlib.Core.Logic.{_⊎_, inl, inr, ⊎-elim}
+use mathlib.Core.Logic.{_⊎_, ⊎-elim}
 use native.Mathlib.Omega.{arith}
 use borrow.Author.Tests.{leb-true, leb-false, ltb-true, ltb-false}
 use lib.Dec.{leb, ltb}
@@ -13,8 +13,8 @@ use Rattle.masks.proofs.Choice.{cases, clash, cond-elim}
 use Rattle.rules.specs.declared.Part.{Part}
 use Rattle.rules.specs.declared.Walked.{Walked}
 use Rattle.rules.specs.Walk.{fixed, visited, keptAt, halted, entering, walk}
-use Rattle.walk_laws.specs.Scan.{leaves, Below, here, there, Chosen, chosen, take, scan, met, Sound}
-use Rattle.walk_laws.proofs.Scans.{take-passed, take-taken, scan-none, scan-one, scan-append, scan-passed, scan-ext}
+use Rattle.walk_laws.specs.Scan.{leaves, Below, here, there, chosen, scan, Sound}
+use Rattle.walk_laws.proofs.Scans.{take-passed, take-taken, scan-one, scan-append, scan-passed}
 
 -- ---- a node that is due is refused by the budget, cut, or entered
 
