@@ -3,7 +3,7 @@ use Prim.Native.Nat.{ℕ}
 use mathlib.Core.List.{List, [], _∷_}
 use lib.IntN.{ℤ}
 use Rattle.rules.specs.declared.Judged.{Judged}
-use Rattle.rules.specs.declared.Judged.the-variants.{Fine, Refused}
+pub use Rattle.rules.specs.Refusals.{unlessRefused}
 use Rattle.rules.specs.Decide.{decideWhy, decideStep}
 use Rattle.rules.specs.Rewrite.{rewriteWhy, rewriteStep}
 use Rattle.rules.specs.TakeBack.{takeBackWhy, takeBackStep}
@@ -22,11 +22,6 @@ abbrev pub callStep : List ℕ → Call → List ℕ
 callStep d (decide l) = decideStep d l
 callStep d (rewrite kind named) = rewriteStep d kind named
 callStep d takeBack = takeBackStep d
-
--- the words of `step` where a call is fine, else those it found
-abbrev pub unlessRefused : Judged → List ℕ → List ℕ → List ℕ
-unlessRefused Fine step d = step
-unlessRefused (Refused r) step d = d
 
 unfoldable pub afterCall : List ℕ → Call → List ℕ
 afterCall d call =

@@ -12,7 +12,7 @@ use Rattle.literals.specs.Literal.{size, isPositive, isLiteral, bitOf}
 use Rattle.rules.specs.declared.Refusal.the-variants.{BadDesk, TooManySteps, BadLiteral}
 use Rattle.rules.specs.declared.Judged.{Judged}
 use Rattle.rules.specs.declared.Judged.the-variants.{Fine}
-use Rattle.rules.specs.Refusals.{refuse}
+use Rattle.rules.specs.Refusals.{refuse, unlessRefused}
 use Rattle.rules.specs.Desk.{variables, standing, decided, truths, mostSteps, entryPlace, wellFormed}
 
 -- a step is entered behind those that stand
@@ -39,3 +39,9 @@ unfoldable pub decideStep : List ℕ → ℤ → List ℕ
 decideStep d l =
     set (set (entered d (decisionEntry l)) 5 (bitOr (decided d) (bitOf l)))
     6 (cond (isPositive l) (bitOr (truths d) (bitOf l)) (truths d))
+
+-- the words after it, refused or not
+unfoldable pub decideDesk : List ℕ → ℤ → List ℕ
+decideDesk d l =
+    let step = decideStep d l in
+    unlessRefused (decideWhy d l) step d

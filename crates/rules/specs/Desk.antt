@@ -16,7 +16,7 @@ use Rattle.rules.specs.declared.Part.{Part}
 use Rattle.rules.specs.declared.Refusal.the-variants.{TooManyVariables, BadTable, BadCapacity, NoRoom, SumTooLarge}
 use Rattle.rules.specs.declared.Judged.{Judged}
 use Rattle.rules.specs.declared.Judged.the-variants.{Fine}
-use Rattle.rules.specs.Refusals.{refuse, inOrder}
+use Rattle.rules.specs.Refusals.{refuse, inOrder, unlessRefused}
 use Rattle.rules.specs.Table.{rowWords, mostRows, mostWeight, rowIn, rowCount, givenUp, badTable, badLits, rowsWhy, sumTooLarge}
 
 abbrev pub headWords : ℕ
@@ -136,6 +136,12 @@ loadStep n table c d =
     ++ (table
     ++ (replicate (rowWords * c - length table + mostSteps * entryWords) 0
     ++ drop (deskWords c) d))
+
+-- the words after a load, refused or not
+unfoldable pub loadDesk : ℕ → List ℕ → ℕ → List ℕ → List ℕ
+loadDesk n table c d =
+    let step = loadStep n table c d in
+    unlessRefused (loadWhy n table c d) step d
 
 -- The decisions as a partial reading: which variables have a value, and which of those are true.
 unfoldable pub decisions : List ℕ → Part

@@ -1,6 +1,7 @@
 -- Document 01, "Refusal numbers": the number and the place that each refusal answers, and how a call's refusals come in order.
 use Prim.Native.Nat.{ℕ}
 use mathlib.Core.Bool.{Bool, true, false}
+use mathlib.Core.List.{List}
 use Rattle.rules.specs.declared.Refusal.{Refusal}
 use Rattle.rules.specs.declared.Refusal.the-variants.{TooManyVariables, BadTable, BadCapacity, NoRoom, BadLiterals, BadWeight, SumTooLarge, BadReading, BadBudget, BadDesk, TooManySteps, BadLiteral, BadNaming, BadFit, DeskFull, NothingStands, InputTooLong, BadText}
 use Rattle.rules.specs.declared.Judged.{Judged}
@@ -60,3 +61,8 @@ inOrder (Refused r) after = Refused r
 abbrev pub isFine : Judged → Bool
 isFine Fine = true
 isFine (Refused r) = false
+
+-- "lent words and bytes stay as found": what a step makes of the words where it is fine, else the words as found
+abbrev pub unlessRefused : Judged → List ℕ → List ℕ → List ℕ
+unlessRefused Fine step found = step
+unlessRefused (Refused r) step found = found

@@ -13,7 +13,7 @@ use Rattle.literals.specs.Lits.{noLits, negatedLits, together, less, variablesO
 use Rattle.rules.specs.declared.Refusal.the-variants.{BadDesk, TooManySteps, BadNaming, BadFit, DeskFull}
 use Rattle.rules.specs.declared.Judged.{Judged}
 use Rattle.rules.specs.declared.Judged.the-variants.{Fine}
-use Rattle.rules.specs.Refusals.{refuse}
+use Rattle.rules.specs.Refusals.{refuse, unlessRefused}
 use Rattle.rules.specs.Desk.{inUse, capacity, standing, conceded, mostSteps, rowOn, setRow, setWeight, wellFormed, decisions, satisfied, remnant, spent}
 use Rattle.rules.specs.Decide.{entered}
 
@@ -182,3 +182,9 @@ rewriteStep d kind named =
     let rows = laid (reweighed (λ x. x - w) (λ i. getD named i 0) d (length named)) (inUse d) w (stored new) in
     entered (set (set rows 1 (inUse d + length (stored new))) 4 (conceded d + w * empties new))
     (rewritingEntry kind w named (inUse d))
+
+-- the words after it, refused or not
+unfoldable pub rewriteDesk : List ℕ → ℕ → List ℕ → List ℕ
+rewriteDesk d kind named =
+    let step = rewriteStep d kind named in
+    unlessRefused (rewriteWhy d kind named) step d

@@ -10,7 +10,7 @@ use Rattle.masks.specs.Words.{zeroed}
 use Rattle.rules.specs.declared.Refusal.the-variants.{BadDesk, NothingStands}
 use Rattle.rules.specs.declared.Judged.{Judged}
 use Rattle.rules.specs.declared.Judged.the-variants.{Fine}
-use Rattle.rules.specs.Refusals.{refuse}
+use Rattle.rules.specs.Refusals.{refuse, unlessRefused}
 use Rattle.rules.specs.Table.{rowWords}
 use Rattle.rules.specs.Desk.{inUse, standing, conceded, decided, truths, loaded, entryWords, rowPlace, entryPlace, wellFormed, weightFits}
 use Rattle.rules.specs.Rewrite.{fewerAdded, concedes, countFits, distinct, reweighed, mostNamed}
@@ -92,3 +92,9 @@ takeBackWhy d =
     refuse (not (wellFormed d)) BadDesk
     (refuse (eqb (standing d) 0) NothingStands
     (refuse (badLast d) BadDesk Fine))
+
+-- the words after it, refused or not
+unfoldable pub takeBackDesk : List ℕ → List ℕ
+takeBackDesk d =
+    let step = takeBackStep d in
+    unlessRefused (takeBackWhy d) step d

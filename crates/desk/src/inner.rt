@@ -1,0 +1,57 @@
+// Rows and entries of a desk, read and written where the caller has seen that they lie within the lent words.
+ghost use mathlib.Core.Path.{_≡_};
+ghost use Prim.Native.Nat.{_+_, _*_, _≤_, _<_};
+ghost use lib.ListN.{length, getD, set};
+ghost use Rattle.rules.specs.Table.{rowIn, rowWords};
+ghost use Rattle.rules.specs.Desk.{headWords, rowOn, setRow, setWeight};
+ghost use Rattle.masks.specs.Words.{zeroed};
+use literals::Lits;
+use rules::Desk;
+use rules::Row;
+
+// The row whose words begin at a place.
+pub fn row_in(words: &[u64], at: usize) -> Row
+    requires { ⌜ at + rowWords ≤ length (now words) ⌝ }
+    ensures { λ r. ⌜ r ≡ rowIn (now (words .entry)) at ⌝ }
+{
+    Row::new(words[at], words[at + 1], words[at + 2])
+}
+
+// Row i of a desk.
+pub fn row_on(desk: &[u64], i: usize) -> Row
+    requires { ⌜ headWords + rowWords * (i + 1) ≤ length (now desk) ⌝ }
+    ensures { λ r. ⌜ r ≡ rowOn (now (desk .entry)) i ⌝ }
+{
+    row_in(desk, Desk::HEAD + Row::WORDS * i)
+}
+
+// Row i of a desk gets another weight.
+pub fn set_weight(desk: &mut [u64], i: usize, w: u64)
+    requires { ⌜ headWords + rowWords * (i + 1) ≤ length (now desk) ⌝ }
+    ensures { λ _. ⌜ now (desk .exit) ≡ setWeight (now (desk .entry)) i w ⌝ }
+{
+    desk[Desk::HEAD + Row::WORDS * i + 2] = w;
+}
+
+// Row i of a desk gets these literals and this weight.
+pub fn set_row(desk: &mut [u64], i: usize, l: Lits, w: u64)
+    requires { ⌜ headWords + rowWords * (i + 1) ≤ length (now desk) ⌝ }
+    ensures { λ _. ⌜ now (desk .exit) ≡ setRow (now (desk .entry)) i l w ⌝ }
+{
+    let at = Desk::HEAD + Row::WORDS * i;
+    desk[at] = l.positive;
+    desk[at + 1] = l.negative;
+    desk[at + 2] = w;
+}
+
+// 0 at the n places from `at` on.
+pub fn zero(desk: &mut [u64], at: usize, n: usize)
+    requires { ⌜ at + n ≤ length (now desk) ⌝ }
+    ensures { λ _. ⌜ now (desk .exit) ≡ zeroed (now (desk .entry)) at n ⌝ }
+{
+    let mut i = 0;
+    while i < n {
+        desk[at + i] = 0;
+        i += 1;
+    }
+}

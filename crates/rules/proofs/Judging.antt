@@ -1,0 +1,27 @@
+-- What a call's refusals in order say: none was given exactly when each test failed.
+use Prim.Native.Nat.{ℕ}
+use mathlib.Core.Path.{_≡_, refl}
+use mathlib.Core.Bool.{Bool, true, false}
+use native.Mathlib.Omega.{arith}
+use Rattle.rules.specs.declared.Refusal.{Refusal}
+use Rattle.rules.specs.declared.Judged.{Judged}
+use Rattle.rules.specs.declared.Judged.the-variants.{Fine, Refused}
+use Rattle.rules.specs.Refusals.{refuse, inOrder, isFine}
+
+pub never-fine : (r : Refusal) → Refused r ≡ Fine → ⊥
+never-fine r e = let z : _≡_ {A = ℕ} 0 1 = cc in omega arith
+
+pub refuse-fine : (b : Bool) (r : Refusal) (after : Judged) → refuse b r after ≡ Fine → (b ≡ false) × (after ≡ Fine)
+refuse-fine true r after e = absurd (never-fine r e)
+refuse-fine false r after e = (refl, e)
+
+pub order-fine : (first after : Judged) → inOrder first after ≡ Fine → (first ≡ Fine) × (after ≡ Fine)
+order-fine Fine after e = (refl, e)
+order-fine (Refused r) after e = absurd (never-fine r e)
+
+pub is-fine : (j : Judged) → isFine j ≡ true → j ≡ Fine
+is-fine Fine e = refl
+is-fine (Refused r) e = let z : _≡_ {A = Bool} true false = cc in absurd (distinct z)
+  where
+    distinct : true ≡ false → ⊥
+    distinct e = let z : _≡_ {A = ℕ} 0 1 = cc in omega arith

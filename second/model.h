@@ -1,0 +1,112 @@
+/* The model of document 01, written from its text: tables, the desk, its steps, the bound, the walk and the text.
+   It prefers the obvious to the fast: a clause is a list of literals and a partial reading a list of values.
+   Every figure that document 01 limits something with stands here and nowhere else. */
+#ifndef MODEL_H
+#define MODEL_H
+
+#include <stdbool.h>
+#include <stddef.h>
+#include <stdint.h>
+
+typedef uint64_t word;
+/* Sums of lent words are true sums: 1,024 words of 64 bits, or 12 times one, stay far below 128 bits. */
+__extension__ typedef unsigned __int128 sum;
+
+enum {
+    MOST_VARIABLES = 64,
+    MOST_LOADED = 512,
+    MOST_CAPACITY = 1024,
+    MOST_STEPS = 256,
+    MOST_WEIGHT = 1000000000,
+    MOST_NAMED = 12,
+    MOST_LINKS = 8,
+    MOST_INPUT = 65536,
+    MOST_DIGITS = 10,
+    HEAD_WORDS = 8,
+    ROW_WORDS = 3,
+    ENTRY_WORDS = 16,
+    ENTRIES_WORDS = MOST_STEPS * ENTRY_WORDS,
+    MOST_DESK = HEAD_WORDS + ROW_WORDS * MOST_CAPACITY + ENTRIES_WORDS,
+    MOST_ANSWER = 1024,
+    MOST_TEXT = 140000 /* above the longest text of an admissible table, 136,793 bytes */
+};
+#define MOST_BUDGET 4294967295u
+
+/* The head of a desk, in its order. */
+enum { VARIABLES, IN_USE, CAPACITY, STEPS, CONCEDED, DECIDED, DECIDED_TRUE, LOADED };
+enum { DECIDE, MERGE, SHIFT, CHAIN, FORK };
+/* A rewriting's entry; the row numbers begin at ENTRY_ROWS. A decision has its variable and value at 1 and 2. */
+enum { ENTRY_KIND, ENTRY_WEIGHT, ENTRY_COUNT, ENTRY_ROWS, ENTRY_FIRST_NEW = ENTRY_WORDS - 1 };
+enum { ENTRY_VARIABLE = 1, ENTRY_VALUE = 2 };
+
+/* Number 0 is an accepted call. */
+struct refusal {
+    unsigned number;
+    word place;
+};
+
+struct table {
+    word variables;
+    const word *words;
+    word count;
+};
+
+struct lent {
+    word *words;
+    word count;
+};
+
+/* 128, since a row that is not admissible may have every variable both ways. */
+struct clause {
+    int count;
+    signed char literals[2 * MOST_VARIABLES];
+};
+
+/* 1 true, -1 false, 0 undecided; index 0 is not used. */
+struct partial {
+    signed char value[MOST_VARIABLES + 1];
+};
+
+struct found {
+    bool done;
+    bool kept; /* whether there is a reading; without one, weight and reading mean nothing */
+    word weight;
+    word reading;
+    word nodes;
+};
+
+struct header {
+    word variables;
+    uint32_t budget;
+    word rows;
+};
+
+struct clause clause_of(const word *row);
+struct clause remnant_of(const struct clause *c, const struct partial *p);
+bool is_satisfied(const struct clause *c, const struct partial *p);
+struct partial standing(const word *desk);
+const word *desk_row(const word *desk, word number);
+word desk_size(word capacity);
+void put_clause(word *row, const struct clause *c, word weight);
+
+struct refusal weigh(struct table t, word reading, word *weight);
+struct refusal load(struct lent out, struct table t, word capacity);
+bool well_formed(struct lent desk);
+struct refusal decide(struct lent desk, int64_t literal);
+struct refusal rewrite(struct lent desk, word kind, const word *named, word count);
+struct refusal take_back(struct lent desk);
+struct refusal bound(struct lent desk, word *answer);
+struct refusal search(struct lent desk, uint32_t budget, struct found *answer);
+
+/* For checks, on well-formed desks only: what one reading weighs, what is lost, and the least weight over all full
+   readings that keep the standing decisions, with the first reading that has it (true before false, variable 1 first). */
+word desk_weight(const word *desk, word reading);
+word lost(const word *desk);
+void least_by_enumeration(const word *desk, word *weight, word *reading);
+
+struct refusal read_text(const unsigned char *text, size_t length, struct lent out, struct header *head);
+struct refusal write_text(struct table t, uint32_t budget, char *out, size_t room, size_t *length);
+/* The program: the answer to the input, at most MOST_ANSWER bytes; the result is its length. */
+size_t program_answer(const unsigned char *input, size_t length, char *out);
+
+#endif

@@ -1,0 +1,393 @@
+/* Part of second.c: scripts of calls, good and bad, on desks of every size. The script is run while it is made, so that
+   the next call can be chosen to fit the desk as it then stands. */
+
+#include <stdarg.h>
+
+struct run {
+    FILE *out;
+    struct bench bench;
+    struct chance chance;
+};
+
+#include "fitting.c"
+
+/* Writes a line of the script and runs it. */
+static void emit(struct run *r, const char *form, ...)
+{
+    char line[400];
+    va_list words;
+    va_start(words, form);
+    vsnprintf(line, sizeof line, form, words);
+    va_end(words);
+    fprintf(r->out, "%s\n", line);
+    if (!run_line(&r->bench, line, NULL)) {
+        fprintf(stderr, "a line was made that is not of the language: %s\n", line);
+        exit(2);
+    }
+}
+
+/* The table's line can be long, so that it has a way of its own. */
+static void emit_table(struct run *r, const word *words, word count)
+{
+    char *line = room_for(10 + 21 * count);
+    size_t at = (size_t)sprintf(line, "table");
+    for (word i = 0; i < count; i++) at += (size_t)sprintf(line + at, " %" PRIu64, words[i]);
+    fprintf(r->out, "%s\n", line);
+    run_line(&r->bench, line, NULL);
+    free(line);
+}
+
+static void emit_text(struct run *r, const struct lines *l)
+{
+    static char line[2 * MOST_LINES * MOST_LINE];
+    char *at = line + sprintf(line, "text ");
+    for (int i = 0; i < l->count; i++) {
+        for (const char *p = l->text[i]; *p != 0; p++) at += sprintf(at, "%02x", *p == 1 ? 0u : (unsigned char)*p);
+        at += sprintf(at, "0a");
+    }
+    for (const char *p = l->tail; *p != 0; p++) at += sprintf(at, "%02x", *p == 1 ? 0u : (unsigned char)*p);
+    fprintf(r->out, "%s\n", line);
+    run_line(&r->bench, line, NULL);
+}
+
+static const word odd_words[] = {0, 1, 2, 3, 4, 5, 6, 12, 63, 64, 65, 255, 256, 257, 511, 512, 513, 1023, 1024, 1025,
+                                 999999999, 1000000000, 1000000001, 4294967296, (word)1 << 63, ~(word)0 - 1, ~(word)0};
+static word odd_word(struct chance *c) { return odd_words[draw(c) % (sizeof odd_words / sizeof *odd_words)]; }
+
+/* --- good and bad calls --- */
+
+static void start_desk(struct run *r, const struct draft *d, word spare, word past)
+{
+    word capacity = d->rows + spare > MOST_CAPACITY ? MOST_CAPACITY : d->rows + spare;
+    emit_table(r, d->words, ROW_WORDS * d->rows);
+    emit(r, "lend %" PRIu64 " %" PRIu64, desk_size(capacity) + past, odd_word(&r->chance));
+    emit(r, "load %" PRIu64 " %" PRIu64, d->variables, capacity);
+}
+
+static bool desk_stands(const struct run *r) { return well_formed(bench_desk(&r->bench)); }
+
+static void call_decide(struct run *r)
+{
+    struct chance *c = &r->chance;
+    word variables = desk_stands(r) ? r->bench.lent[VARIABLES] : 3;
+    if (variables == 0 || one_in(c, 12)) {
+        static const char *const bad[] = {"0",   "65",  "-65", "64", "-64", "-9223372036854775808", "9223372036854775807",
+                                          "4294967297"};
+        emit(r, "decide %s", bad[draw(c) % 8]);
+    } else {
+        emit(r, "decide %d", draw_literal(c, variables));
+    }
+}
+
+static void emit_rewrite(struct run *r, word kind, const word *named, word count)
+{
+    char line[400];
+    size_t at = (size_t)sprintf(line, "rewrite %" PRIu64, kind);
+    for (word i = 0; i < count; i++) at += (size_t)sprintf(line + at, " %" PRIu64, named[i]);
+    emit(r, "%s", line);
+}
+
+/* One thing wrong with rows that would fit, or almost. */
+static void spoil(struct chance *c, word *kind, word *named, word *count)
+{
+    word i = draw(c) % *count, j = draw(c) % *count, held = named[i];
+    switch (draw(c) % 6) {
+    case 0: named[i] = named[j], named[j] = held; break;
+    case 1: named[i] = named[j]; break;
+    case 2: --*count; break;
+    case 3: named[*count] = draw(c) % 8, ++*count; break;
+    case 4: named[i] = one_in(c, 2) ? odd_word(c) : draw(c) % 20; break;
+    default: *kind = one_in(c, 2) ? odd_word(c) : between(c, 1, 4); break;
+    }
+}
+
+static void call_any_rewrite(struct run *r)
+{
+    word named[16], count = between(&r->chance, 0, 13);
+    for (word i = 0; i < count; i++) named[i] = one_in(&r->chance, 9) ? odd_word(&r->chance) : draw(&r->chance) % 14;
+    emit_rewrite(r, one_in(&r->chance, 3) ? odd_word(&r->chance) : between(&r->chance, 1, 4), named, count);
+}
+
+static void call_fitting_rewrite(struct run *r, word kind)
+{
+    word named[16], count;
+    if (!desk_stands(r) || !find_fitting(r->bench.lent, &r->chance, kind, named, &count)) {
+        if (one_in(&r->chance, 4)) call_any_rewrite(r);
+        return;
+    }
+    if (one_in(&r->chance, 7)) spoil(&r->chance, &kind, named, &count);
+    emit_rewrite(r, kind, named, count);
+}
+
+static void call_to_search(struct run *r)
+{
+    struct chance *c = &r->chance;
+    bool small = desk_stands(r) && r->bench.lent[VARIABLES] <= 9;
+    word budget = small && one_in(c, 2) ? MOST_BUDGET : one_in(c, 2) ? between(c, 0, 14) : between(c, 0, 120);
+    emit(r, "search %" PRIu64, budget);
+}
+
+static void call_to_weigh(struct run *r)
+{
+    struct chance *c = &r->chance;
+    word variables = one_in(c, 8) ? odd_word(c) : desk_stands(r) ? r->bench.lent[VARIABLES] : 3;
+    word reading = draw(c);
+    if (variables < MOST_VARIABLES && !one_in(c, 8)) reading %= (word)1 << variables;
+    emit(r, "weight %" PRIu64 " %" PRIu64, variables, reading);
+}
+
+static void call_any(struct run *r)
+{
+    switch (draw(&r->chance) % 20) {
+    case 0: case 1: call_decide(r); break;
+    case 2: case 3: case 4: call_fitting_rewrite(r, MERGE); break;
+    case 5: case 6: call_fitting_rewrite(r, SHIFT); break;
+    case 7: case 8: case 9: call_fitting_rewrite(r, CHAIN); break;
+    case 10: case 11: case 12: call_fitting_rewrite(r, FORK); break;
+    case 13: call_any_rewrite(r); break;
+    case 14: case 15: case 16: emit(r, "back"); break;
+    case 17: emit(r, "bound"); break;
+    case 18: call_to_search(r); break;
+    default:
+        if (one_in(&r->chance, 2)) emit(r, "wellformed");
+        else call_to_weigh(r);
+    }
+}
+
+static void call_many(struct run *r, word calls)
+{
+    for (; calls > 0; calls--) call_any(r);
+}
+
+static void take_all_back(struct run *r)
+{
+    for (word i = desk_stands(r) ? r->bench.lent[STEPS] + 1 : 2; i > 0; i--) emit(r, "back");
+}
+
+/* --- families of runs --- */
+
+static void draft_for_steps(struct chance *c, struct draft *d, word variables, word most)
+{
+    d->variables = variables;
+    add_mixed_rows(c, d, between(c, 0, 24), most);
+    if (one_in(c, 2) && variables > 0) add_chain(c, d, between(c, 0, MOST_LINKS), most);
+    if (one_in(c, 2)) add_fork(c, d, between(c, 0, MOST_LINKS), most);
+}
+
+static void run_ordinary(struct run *r)
+{
+    struct draft d = {0};
+    struct chance *c = &r->chance;
+    word most = between(c, 1, 9), past = draw(c) % 4;
+    draft_for_steps(c, &d, between(c, 1, 6), most);
+    start_desk(r, &d, one_in(c, 9) ? (word)MOST_CAPACITY : between(c, 0, 60), past);
+    call_many(r, between(&r->chance, 10, 50));
+    take_all_back(r);
+}
+
+static void run_tight(struct run *r)
+{
+    struct draft d = {0};
+    draft_for_steps(&r->chance, &d, between(&r->chance, 0, 4), 4);
+    word past = draw(&r->chance) % 2;
+    start_desk(r, &d, draw(&r->chance) % 4, past);
+    call_many(r, between(&r->chance, 10, 40));
+}
+
+static void run_long_links(struct run *r)
+{
+    struct chance *c = &r->chance;
+    struct draft d = {.variables = between(c, 3, 20)};
+    for (word i = between(c, 1, 4); i > 0; i--) {
+        add_chain(c, &d, between(c, 0, MOST_LINKS), 9);
+        add_fork(c, &d, between(c, 0, MOST_LINKS), 9);
+    }
+    start_desk(r, &d, between(c, 10, 900), 0);
+    for (int i = 0; i < 12; i++) {
+        call_fitting_rewrite(r, between(c, CHAIN, FORK));
+        if (one_in(c, 3)) call_any(r);
+    }
+    emit(r, "words 0 8");
+    take_all_back(r);
+}
+
+/* Shifts there and back until 256 steps stand, each of two new rows. */
+static void run_ledger(struct run *r)
+{
+    struct draft d = {.variables = 2};
+    add_row(&d, unit_row(1), 5);
+    add_row(&d, pair_row(-1, 2), 5);
+    start_desk(r, &d, between(&r->chance, 505, 1022), 1);
+    emit(r, "rewrite 2 0 1");
+    for (int i = 1; i < MOST_STEPS - (int)(draw(&r->chance) % 3); i++) emit(r, "rewrite 2 %d %d", 2 * i + 1, 2 * i);
+    emit(r, "decide 1");
+    emit(r, "decide 65");
+    call_many(r, 6);
+    for (word i = draw(&r->chance) % 9; i > 0; i--) emit(r, "back");
+    call_many(r, 6);
+}
+
+static word poke_index(struct run *r)
+{
+    struct chance *c = &r->chance;
+    word in_use = r->bench.lent[IN_USE] % 40, capacity = r->bench.lent[CAPACITY], steps = r->bench.lent[STEPS];
+    word row = in_use == 0 ? 0 : draw(c) % in_use, rows = HEAD_WORDS + ROW_WORDS * row + draw(c) % ROW_WORDS;
+    if (one_in(c, 2) || capacity > MOST_CAPACITY) return one_in(c, 2) ? draw(c) % HEAD_WORDS : rows;
+    word last = steps == 0 || steps > MOST_STEPS ? 0 : steps - 1;
+    return HEAD_WORDS + ROW_WORDS * capacity + ENTRY_WORDS * last + draw(c) % ENTRY_WORDS;
+}
+
+static word poke_value(struct chance *c, word now)
+{
+    switch (draw(c) % 4) {
+    case 0: return now + 1;
+    case 1: return now - 1;
+    case 2: return now ^ (word)1 << draw(c) % 64;
+    default: return odd_word(c);
+    }
+}
+
+/* Pokes one word, calls a little, and mostly puts it back as it was before the poke. */
+static void poke_and_call(struct run *r)
+{
+    word index = poke_index(r);
+    if (index >= r->bench.lent_count) return;
+    word before = r->bench.lent[index];
+    emit(r, "poke %" PRIu64 " %" PRIu64, index, poke_value(&r->chance, before));
+    emit(r, "wellformed");
+    for (word i = between(&r->chance, 1, 3); i > 0; i--) {
+        if (one_in(&r->chance, 2)) emit(r, "back");
+        else call_any(r);
+    }
+    if (!one_in(&r->chance, 4)) emit(r, "poke %" PRIu64 " %" PRIu64, index, before);
+}
+
+static void run_poked(struct run *r)
+{
+    struct draft d = {0};
+    draft_for_steps(&r->chance, &d, between(&r->chance, 1, 6), 5);
+    word past = draw(&r->chance) % 3;
+    start_desk(r, &d, between(&r->chance, 0, 40), past);
+    for (int i = 0; i < 10; i++) {
+        call_many(r, between(&r->chance, 1, 5));
+        poke_and_call(r);
+    }
+    emit(r, "words 0 8");
+}
+
+static void run_short(struct run *r)
+{
+    struct draft d = {0};
+    draft_for_steps(&r->chance, &d, between(&r->chance, 1, 5), 5);
+    start_desk(r, &d, between(&r->chance, 0, 9), 0);
+    call_many(r, 8);
+    word size = r->bench.lent_count, reaches[] = {0, 1, 7, 8, 9, size / 2, size - 1, size};
+    for (int i = 0; i < 8; i++) {
+        emit(r, "reach %" PRIu64, reaches[draw(&r->chance) % 8]);
+        emit(r, "wellformed");
+        call_many(r, 3);
+        if (one_in(&r->chance, 3)) emit(r, "load %" PRIu64 " %" PRIu64, d.variables, d.rows);
+    }
+}
+
+static void spoil_table(struct chance *c, struct draft *d, word *count)
+{
+    if (d->rows == 0) return;
+    word row = ROW_WORDS * (draw(c) % d->rows), flipped = (word)1 << draw(c) % 64;
+    switch (draw(c) % 5) {
+    case 0: d->words[row + 2] = odd_word(c); break;
+    case 1: d->words[row + draw(c) % 2] ^= flipped; break;
+    case 2: d->words[row + 1] |= d->words[row]; break;
+    case 3: *count -= between(c, 1, 2); break;
+    default: bring_sum_to_limit(d, draw(c) % 2); break;
+    }
+}
+
+static void run_loads(struct run *r)
+{
+    struct chance *c = &r->chance;
+    for (int i = 0; i < 12; i++) {
+        struct draft d = {.variables = between(c, 0, 7)};
+        add_mixed_rows(c, &d, one_in(c, 9) ? between(c, 509, 515) : between(c, 0, 12), 5);
+        word count = ROW_WORDS * d.rows, capacity = one_in(c, 3) ? odd_word(c) : d.rows + draw(c) % 4 - 1;
+        for (word n = draw(c) % 3; n > 0; n--) spoil_table(c, &d, &count);
+        emit_table(r, d.words, count);
+        word size = capacity <= MOST_CAPACITY ? desk_size(capacity) : desk_size(MOST_CAPACITY);
+        word fill = odd_word(c), room = one_in(c, 2) ? (word)20000 : between(c, 0, 400);
+        emit(r, "lend %" PRIu64 " %" PRIu64, one_in(c, 6) ? draw(c) % 4200 : size + draw(c) % 3 - 1, fill);
+        emit(r, "load %" PRIu64 " %" PRIu64, one_in(c, 8) ? odd_word(c) : d.variables, capacity);
+        emit(r, "weight %" PRIu64 " %" PRIu64, d.variables, draw(c) % 256);
+        emit(r, "write %" PRIu64 " 7 %" PRIu64 " 170", one_in(c, 8) ? odd_word(c) : d.variables, room);
+        emit(r, "wellformed");
+        emit(r, "bound");
+    }
+}
+
+static void run_wide(struct run *r)
+{
+    struct chance *c = &r->chance;
+    struct draft d = {.variables = one_in(c, 4) ? 63 : MOST_VARIABLES};
+    word length = between(c, 1, 5);
+    add_random_rows(c, &d, between(c, 1, 40), length, 9);
+    for (int i = 0; i < 3; i++) add_chain(c, &d, between(c, 0, MOST_LINKS), 9);
+    for (int i = 0; i < 3; i++) add_fork(c, &d, between(c, 0, MOST_LINKS), 9);
+    add_clashing_units(c, &d, 5, 9);
+    start_desk(r, &d, between(c, 10, 80), 1);
+    emit(r, "decide %d", one_in(c, 2) ? 64 : -64);
+    call_many(r, 40);
+}
+
+static void run_limits(struct run *r)
+{
+    struct draft d = {0};
+    draft_for_steps(&r->chance, &d, between(&r->chance, 1, 5), 30000000);
+    bring_sum_to_limit(&d, one_in(&r->chance, 5));
+    start_desk(r, &d, between(&r->chance, 0, 50), 0);
+    call_many(r, between(&r->chance, 10, 40));
+    take_all_back(r);
+}
+
+static void run_texts(struct run *r)
+{
+    static struct lines l;
+    char kind[100];
+    for (int i = 0; i < 8; i++) {
+        struct chance *c = &r->chance;
+        if (one_in(c, 3)) damage_text(c, (int)(draw(c) % DAMAGES), &l, kind);
+        else {
+            struct draft d = {0};
+            word budget = families[draw(c) % FAMILIES].draft(c, &d);
+            lines_of(&l, &d, budget);
+        }
+        emit_text(r, &l);
+        word rows = l.count > 3 ? (word)(l.count - 3) / 2 : 0, fill = odd_word(c);
+        emit(r, "read %" PRIu64 " %" PRIu64, one_in(c, 4) ? draw(c) % 40 : ROW_WORDS * rows + draw(c) % 4, fill);
+    }
+}
+
+static const struct {
+    const char *name;
+    void (*make)(struct run *r);
+} run_families[] = {
+    {"ordinary", run_ordinary}, {"tight", run_tight},   {"long-links", run_long_links}, {"poked", run_poked},
+    {"short", run_short},       {"loads", run_loads},   {"wide", run_wide},             {"limits", run_limits},
+    {"texts", run_texts},       {"ordinary", run_ordinary}, {"tight", run_tight},       {"poked", run_poked},
+};
+enum { RUN_FAMILIES = sizeof run_families / sizeof *run_families };
+
+static int generate_runs(word seed, int count, const char *dir)
+{
+    struct run r = {.chance = {seed}};
+    for (int i = 0; i < count; i++) {
+        bool ledger = i % 60 == 59; /* long, and one is like another */
+        const char *name = ledger ? "ledger" : run_families[i % RUN_FAMILIES].name;
+        r.out = open_case(dir, i, name, "run");
+        if (r.out == NULL) return 2;
+        r.bench = new_bench();
+        if (ledger) run_ledger(&r);
+        else run_families[i % RUN_FAMILIES].make(&r);
+        end_bench(&r.bench);
+        fclose(r.out);
+    }
+    return 0;
+}

@@ -1,0 +1,363 @@
+/* Part of second.c: scripts of calls on one desk.
+
+   A script is lines of words parted by spaces. Numbers are decimal, 0 to 2^64 - 1; the literal of `decide` is signed,
+   -2^63 to 2^63 - 1. A line that is empty or begins with # is passed over. Words or bytes lent are at most 1,000,000.
+
+   Settings, which print nothing:
+     table W...            the table's words from here on (any count, none too)
+     text HEX              the text's bytes from here on, two digits each; `text` alone is the empty text
+     lend COUNT FILL       lends COUNT words, each FILL
+     reach COUNT           calls are lent only the first COUNT of them (at most all); `lend` ends this
+     poke INDEX VALUE      sets one of the lent words
+
+   Calls, which print one line each:
+     load VARS C           the table onto the lent words
+     wellformed
+     decide LITERAL
+     rewrite KIND ROW...   (any count, none too)
+     back                  taking back
+     bound
+     search BUDGET         (0 to 4,294,967,295)
+     weight VARS READING   of the table
+     read ROOM FILL        the text into ROOM words, each FILL before
+     write VARS BUDGET ROOM FILL   the table into ROOM bytes, each FILL (0 to 255) before
+     words FROM TO         prints `words` and the lent words FROM to TO - 1, and no checksum
+
+   A line printed is the answer and then a checksum:
+     ok CHECK                              load, decide, rewrite, back
+     yes CHECK, no CHECK                   wellformed
+     WEIGHT CHECK                          bound, weight
+     done WEIGHT READING NODES CHECK       search; or stopped; weight and reading may be `none`
+     ok VARS BUDGET ROWS CHECK             read
+     ok LENGTH CHECK                       write
+     refused NUMBER PLACE CHECK            any of them
+   The checksum is over all the words lent, those out of reach and past the desk too; for read over its ROOM words, for
+   write over its ROOM bytes. It starts at 14695981039346656037; each word (or byte) in turn is xored in and the result
+   multiplied by 1099511628211, modulo 2^64. */
+
+enum { MOST_LENT = 1000000 };
+
+struct bench {
+    word *table, *lent;
+    word table_count, lent_count, reach;
+    unsigned char *text;
+    size_t text_length;
+};
+
+/* The words of a line not yet taken. */
+struct line {
+    const char *at;
+    bool broken;
+};
+
+static void *room_for(size_t bytes)
+{
+    void *p = malloc(bytes == 0 ? 1 : bytes);
+    if (p == NULL) {
+        fputs("no memory\n", stderr);
+        exit(2);
+    }
+    return p;
+}
+
+static bool at_end(struct line *l)
+{
+    while (*l->at == ' ') l->at++;
+    return *l->at == 0;
+}
+
+static word next_number(struct line *l)
+{
+    char *end;
+    errno = 0;
+    if (at_end(l) || *l->at == '-') {
+        l->broken = true;
+        return 0;
+    }
+    word value = strtoull(l->at, &end, 10);
+    if (end == l->at || (*end != ' ' && *end != 0) || errno != 0) l->broken = true;
+    l->at = end;
+    return value;
+}
+
+static int64_t next_literal(struct line *l)
+{
+    char *end;
+    errno = 0;
+    if (at_end(l)) l->broken = true;
+    int64_t value = strtoll(l->at, &end, 10);
+    if (end == l->at || (*end != ' ' && *end != 0) || errno != 0) l->broken = true;
+    l->at = end;
+    return value;
+}
+
+/* All numbers left on the line. */
+static word *rest_of(struct line *l, word *count)
+{
+    size_t most = strlen(l->at) / 2 + 1;
+    word *words = room_for(most * sizeof *words);
+    *count = 0;
+    while (!l->broken && !at_end(l)) words[(*count)++] = next_number(l);
+    return words;
+}
+
+static word check_start(void) { return 14695981039346656037u; }
+static word check_more(word check, word value) { return (check ^ value) * 1099511628211u; }
+
+static word check_words(const word *words, word count)
+{
+    word check = check_start();
+    for (word i = 0; i < count; i++) check = check_more(check, words[i]);
+    return check;
+}
+
+static void show(FILE *out, const char *text, word check)
+{
+    if (out != NULL) fprintf(out, "%s %" PRIu64 "\n", text, check);
+}
+
+static void show_refusal(FILE *out, struct refusal no, word check)
+{
+    if (out != NULL) fprintf(out, "refused %u %" PRIu64 " %" PRIu64 "\n", no.number, no.place, check);
+}
+
+static void show_outcome(FILE *out, struct refusal no, const char *text, word check)
+{
+    if (no.number != 0) show_refusal(out, no, check);
+    else show(out, text, check);
+}
+
+static word bench_check(const struct bench *b) { return check_words(b->lent, b->lent_count); }
+static struct lent bench_desk(const struct bench *b) { return (struct lent){b->lent, b->reach}; }
+
+/* For calls that change the desk: the checksum is of the words after it, so the call has to be over. */
+static void show_change(FILE *out, struct refusal no, const struct bench *b)
+{
+    show_outcome(out, no, "ok", bench_check(b));
+}
+
+static void set_text(struct bench *b, struct line *l)
+{
+    at_end(l);
+    size_t digits = strlen(l->at);
+    if (digits % 2 != 0) l->broken = true;
+    free(b->text);
+    b->text = room_for(digits / 2);
+    b->text_length = digits / 2;
+    for (size_t i = 0; i < digits / 2; i++) {
+        unsigned byte;
+        char pair[3] = {l->at[2 * i], l->at[2 * i + 1], 0};
+        if (sscanf(pair, "%2x", &byte) != 1) l->broken = true;
+        else b->text[i] = (unsigned char)byte;
+    }
+    l->at += digits;
+}
+
+static void set_lent(struct bench *b, word count, word fill)
+{
+    free(b->lent);
+    b->lent = room_for(count * sizeof *b->lent);
+    b->lent_count = b->reach = count;
+    for (word i = 0; i < count; i++) b->lent[i] = fill;
+}
+
+static bool run_setting(struct bench *b, const char *name, struct line *l)
+{
+    if (strcmp(name, "table") == 0) {
+        free(b->table);
+        b->table = rest_of(l, &b->table_count);
+    } else if (strcmp(name, "text") == 0) {
+        set_text(b, l);
+    } else if (strcmp(name, "lend") == 0) {
+        word count = next_number(l), fill = next_number(l);
+        if (count > MOST_LENT) l->broken = true;
+        else set_lent(b, count, fill);
+    } else if (strcmp(name, "reach") == 0) {
+        word count = next_number(l);
+        if (count > b->lent_count) l->broken = true;
+        else b->reach = count;
+    } else if (strcmp(name, "poke") == 0) {
+        word index = next_number(l), value = next_number(l);
+        if (index >= b->lent_count) l->broken = true;
+        else b->lent[index] = value;
+    } else {
+        return false;
+    }
+    return true;
+}
+
+static void call_search(struct bench *b, struct line *l, FILE *out)
+{
+    struct found f;
+    word budget = next_number(l);
+    if (budget > MOST_BUDGET) l->broken = true;
+    if (l->broken) return;
+    struct refusal no = search(bench_desk(b), (uint32_t)budget, &f);
+    if (no.number != 0) {
+        show_refusal(out, no, bench_check(b));
+        return;
+    }
+    char text[100];
+    if (f.kept)
+        snprintf(text, sizeof text, "%s %" PRIu64 " %" PRIu64 " %" PRIu64, f.done ? "done" : "stopped", f.weight,
+                 f.reading, f.nodes);
+    else snprintf(text, sizeof text, "%s none none %" PRIu64, f.done ? "done" : "stopped", f.nodes);
+    show(out, text, bench_check(b));
+}
+
+static void call_weighing(struct bench *b, const char *name, struct line *l, FILE *out)
+{
+    word weight = 0;
+    char text[24];
+    struct refusal no;
+    if (strcmp(name, "bound") == 0) {
+        no = bound(bench_desk(b), &weight);
+    } else {
+        word variables = next_number(l), reading = next_number(l);
+        no = weigh((struct table){variables, b->table, b->table_count}, reading, &weight);
+    }
+    snprintf(text, sizeof text, "%" PRIu64, weight);
+    show_outcome(out, no, text, bench_check(b));
+}
+
+static void call_rewrite(struct bench *b, struct line *l, FILE *out)
+{
+    word kind = next_number(l), count;
+    word *named = rest_of(l, &count);
+    if (!l->broken) show_change(out, rewrite(bench_desk(b), kind, named, count), b);
+    free(named);
+}
+
+static void call_read(struct bench *b, struct line *l, FILE *out)
+{
+    word room = next_number(l), fill = next_number(l);
+    struct header head = {0, 0, 0};
+    char text[80];
+    if (l->broken || room > MOST_LENT) {
+        l->broken = true;
+        return;
+    }
+    word *words = room_for(room * sizeof *words);
+    for (word i = 0; i < room; i++) words[i] = fill;
+    struct refusal no = read_text(b->text, b->text_length, (struct lent){words, room}, &head);
+    snprintf(text, sizeof text, "ok %" PRIu64 " %" PRIu32 " %" PRIu64, head.variables, head.budget, head.rows);
+    show_outcome(out, no, text, check_words(words, room));
+    free(words);
+}
+
+static void call_write(struct bench *b, struct line *l, FILE *out)
+{
+    word variables = next_number(l), budget = next_number(l), room = next_number(l), fill = next_number(l);
+    size_t length = 0;
+    char text[40];
+    if (l->broken || room > MOST_LENT || budget > MOST_BUDGET) {
+        l->broken = true;
+        return;
+    }
+    char *bytes = room_for(room);
+    memset(bytes, (int)fill, room);
+    struct table t = {variables, b->table, b->table_count};
+    struct refusal no = write_text(t, (uint32_t)budget, bytes, room, &length);
+    word check = check_start();
+    for (word i = 0; i < room; i++) check = check_more(check, (unsigned char)bytes[i]);
+    snprintf(text, sizeof text, "ok %zu", length);
+    show_outcome(out, no, text, check);
+    free(bytes);
+}
+
+static void call_words(struct bench *b, struct line *l, FILE *out)
+{
+    word from = next_number(l), to = next_number(l);
+    if (l->broken || from > to || to > b->lent_count) {
+        l->broken = true;
+        return;
+    }
+    if (out == NULL) return;
+    fputs("words", out);
+    for (word i = from; i < to; i++) fprintf(out, " %" PRIu64, b->lent[i]);
+    fputs("\n", out);
+}
+
+static void call_load(struct bench *b, struct line *l, FILE *out)
+{
+    word variables = next_number(l), capacity = next_number(l);
+    struct table t = {variables, b->table, b->table_count};
+    if (!l->broken) show_change(out, load(bench_desk(b), t, capacity), b);
+}
+
+static bool run_call(struct bench *b, const char *name, struct line *l, FILE *out)
+{
+    if (strcmp(name, "load") == 0) {
+        call_load(b, l, out);
+    } else if (strcmp(name, "wellformed") == 0) {
+        show(out, well_formed(bench_desk(b)) ? "yes" : "no", bench_check(b));
+    } else if (strcmp(name, "decide") == 0) {
+        int64_t literal = next_literal(l);
+        if (!l->broken) show_change(out, decide(bench_desk(b), literal), b);
+    } else if (strcmp(name, "rewrite") == 0) {
+        call_rewrite(b, l, out);
+    } else if (strcmp(name, "back") == 0) {
+        show_change(out, take_back(bench_desk(b)), b);
+    } else if (strcmp(name, "bound") == 0 || strcmp(name, "weight") == 0) {
+        call_weighing(b, name, l, out);
+    } else if (strcmp(name, "search") == 0) {
+        call_search(b, l, out);
+    } else if (strcmp(name, "read") == 0) {
+        call_read(b, l, out);
+    } else if (strcmp(name, "write") == 0) {
+        call_write(b, l, out);
+    } else if (strcmp(name, "words") == 0) {
+        call_words(b, l, out);
+    } else {
+        return false;
+    }
+    return true;
+}
+
+/* Runs one line; what it prints goes to out, or nowhere. False if the line is not of the language. */
+static bool run_line(struct bench *b, const char *text, FILE *out)
+{
+    char name[16];
+    int taken = 0;
+    struct line l = {text, false};
+    if (at_end(&l) || *l.at == '#') return true;
+    if (sscanf(l.at, "%15s%n", name, &taken) != 1) return false;
+    l.at += taken;
+    bool known = run_setting(b, name, &l) || run_call(b, name, &l, out);
+    return known && !l.broken && at_end(&l);
+}
+
+static struct bench new_bench(void)
+{
+    struct bench b = {0};
+    b.table = room_for(0);
+    b.text = room_for(0);
+    set_lent(&b, 0, 0);
+    return b;
+}
+
+static void end_bench(struct bench *b)
+{
+    free(b->table);
+    free(b->text);
+    free(b->lent);
+}
+
+/* Lines are cut at their ends in place. */
+static int run_script(char *script, FILE *out)
+{
+    struct bench b = new_bench();
+    int number = 1;
+    for (char *line = script; line != NULL && *line != 0; number++) {
+        char *end = strchr(line, '\n');
+        if (end != NULL) *end = 0;
+        if (!run_line(&b, line, out)) {
+            fprintf(stderr, "line %d is not of the language\n", number);
+            end_bench(&b);
+            return 2;
+        }
+        line = end == NULL ? NULL : end + 1;
+    }
+    end_bench(&b);
+    return 0;
+}

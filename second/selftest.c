@@ -1,0 +1,266 @@
+/* Part of second.c: the model against document 01's own examples, and against enumeration on random tables. */
+
+struct tally {
+    const char *family;
+    int passed, failed;
+    int all_passed, all_failed;
+};
+
+static void check(struct tally *t, bool right, const char *what)
+{
+    if (right) {
+        t->passed++;
+        return;
+    }
+    if (t->failed++ < 5) printf("  failed in %s: %s\n", t->family, what);
+}
+
+static void begin_family(struct tally *t, const char *family)
+{
+    t->family = family;
+    t->passed = t->failed = 0;
+}
+
+static void end_family(struct tally *t)
+{
+    printf("%-44s %7d passed, %d failed\n", t->family, t->passed, t->failed);
+    t->all_passed += t->passed;
+    t->all_failed += t->failed;
+}
+
+/* --- rows and desks written as text: "3: 1 -2 ; 2: -1" is weight 3 and (1, -2), then weight 2 and (-1) --- */
+
+static struct draft draft_from(word variables, const char *rows)
+{
+    struct draft d = {.variables = variables};
+    while (*rows != 0) {
+        int used = 0;
+        unsigned weight;
+        int literal;
+        struct clause c = {0};
+        sscanf(rows, " %u :%n", &weight, &used);
+        for (rows += used; sscanf(rows, " %d%n", &literal, &used) == 1; rows += used)
+            c.literals[c.count++] = (signed char)literal;
+        add_row(&d, c, weight);
+        while (*rows == ' ' || *rows == ';') rows++;
+    }
+    return d;
+}
+
+static word test_words[MOST_DESK];
+
+/* A table that does not load leaves a desk of no words, on which every check fails. */
+static struct lent load_draft(const struct draft *d, word capacity)
+{
+    struct lent desk = {test_words, desk_size(capacity)};
+    if (load(desk, table_of(d), capacity).number != 0) desk.count = 0;
+    return desk;
+}
+
+static struct lent load_rows(word variables, const char *rows, word capacity)
+{
+    struct draft d = draft_from(variables, rows);
+    return load_draft(&d, capacity);
+}
+
+/* The rows in use are those of the text, in its order. A spent one is written with weight 0. */
+static bool rows_are(const word *desk, const char *rows)
+{
+    struct draft d = draft_from(0, rows);
+    return desk[IN_USE] == d.rows && memcmp(desk_row(desk, 0), d.words, ROW_WORDS * d.rows * sizeof(word)) == 0;
+}
+
+static bool search_gives(struct lent desk, uint32_t budget, bool done, word weight, word reading, word nodes)
+{
+    struct found f;
+    if (search(desk, budget, &f).number != 0 || !f.kept) return false;
+    return f.done == done && f.weight == weight && f.reading == reading && f.nodes == nodes;
+}
+
+static bool stops_with_none(struct lent desk, uint32_t budget)
+{
+    struct found f;
+    return search(desk, budget, &f).number == 0 && !f.done && !f.kept && f.nodes == budget;
+}
+
+static bool bound_is(struct lent desk, word value)
+{
+    word b;
+    return bound(desk, &b).number == 0 && b == value;
+}
+
+static bool is(struct refusal no, unsigned number, word place) { return no.number == number && no.place == place; }
+
+/* --- P1 to P10 --- */
+
+static const char p4_rows[] = "1: 1; 1: -1 2; 1: -1 -2; 1: -1 3; 1: -1 -3";
+
+static void check_p1_to_p4(struct tally *t)
+{
+    struct lent d = load_rows(0, "", 0);
+    check(t, search_gives(d, MOST_BUDGET, true, 0, 0, 1) && search_gives(d, 1, true, 0, 0, 1), "P1 weight 0, 1 node");
+    check(t, stops_with_none(d, 0), "P1 budget 0");
+    d = load_rows(1, "3: 1; 2: -1", 2);
+    check(t, search_gives(d, 100, true, 2, 1, 3) && bound_is(d, 2), "P2");
+    d = load_rows(1, "4: 1; 4: -1", 2);
+    check(t, search_gives(d, 100, true, 4, 1, 3), "P3");
+    d = load_rows(3, p4_rows, 5);
+    check(t, search_gives(d, MOST_BUDGET, true, 1, 6, 11), "P4 done");
+    check(t, search_gives(d, 6, false, 2, 7, 6), "P4 budget 6");
+    check(t, search_gives(d, 10, false, 1, 6, 10), "P4 budget 10");
+    check(t, search_gives(d, 11, true, 1, 6, 11), "P4 budget 11");
+    for (word reading = 0; reading < 8; reading += 2)
+        check(t, desk_weight(d.words, reading) == 1, "P4, x1 false breaks one");
+    decide(d, 1);
+    check(t, bound_is(d, 2), "P4, the bound with x1 true is 2");
+}
+
+static void check_p5_to_p7(struct tally *t)
+{
+    static const char rows[] = "3: 1; 5: 2; 2: -1 -2";
+    word chain[] = {0, 2, 1}, fork[] = {0, 1, 2, 3}, merge[] = {0, 1};
+    struct lent d = load_rows(2, rows, 4);
+    check(t, is(rewrite(d, CHAIN, chain, 3), 0, 0), "P5 fits in 4");
+    check(t, rows_are(d.words, "1: 1; 3: 2; 0: -1 -2; 2: 1 2") && d.words[CONCEDED] == 2, "P5 rows and conceded");
+    check(t, desk_weight(d.words, 0) == 8, "P5 all false weighs 8");
+    d = load_rows(2, rows, 3);
+    check(t, is(rewrite(d, CHAIN, chain, 3), 15, 0) && rows_are(d.words, rows), "P5 does not fit in 3");
+    d = load_rows(3, "1: 1; 1: -1 2; 1: -1 3; 1: -2 -3", 6);
+    check(t, is(rewrite(d, FORK, fork, 4), 0, 0) && d.words[CONCEDED] == 1, "P6 concedes 1");
+    check(t, rows_are(d.words, "0: 1; 0: -1 2; 0: -1 3; 0: -2 -3; 1: 1 -2 -3; 1: -1 2 3"), "P6 rows");
+    d = load_rows(2, "4: 1 2; 1: -1 2", 3);
+    check(t, is(rewrite(d, MERGE, merge, 2), 0, 0) && d.words[CONCEDED] == 0, "P7 is taken");
+    check(t, rows_are(d.words, "3: 1 2; 0: -1 2; 1: 2"), "P7 rows");
+}
+
+static void check_p8_to_p10(struct tally *t)
+{
+    word merge[] = {0, 1}, loaded[MOST_DESK];
+    struct lent d = load_rows(2, "1: 1 2; 1: -2", 2);
+    memcpy(loaded, d.words, d.count * sizeof(word));
+    check(t, is(decide(d, -1), 0, 0) && is(rewrite(d, MERGE, merge, 2), 0, 0), "P8 steps");
+    check(t, d.words[CONCEDED] == 1 && d.words[IN_USE] == 2 && rows_are(d.words, "0: 1 2; 0: -2"), "P8 conceded");
+    check(t, desk_weight(d.words, 1) == 1 && desk_weight(loaded, 1) == 0, "P8, the decision withdrawn would cost 1");
+    check(t, is(take_back(d), 0, 0) && is(take_back(d), 0, 0), "P8 takings back");
+    check(t, memcmp(loaded, d.words, d.count * sizeof(word)) == 0, "P8 restores the load");
+    check(t, is(take_back(d), 16, 0), "P8 third");
+    d = load_rows(1, "7:", 1);
+    check(t, search_gives(d, 100, true, 7, 1, 3), "P9");
+    struct draft ten = draft_from(1, "999999999: 1; 1: -1");
+    check(t, is(load(d, table_of(&ten), 2), 4, 0), "a desk lent for C = 1 is too short for C = 2");
+    d.count = desk_size(2);
+    check(t, is(load(d, table_of(&ten), 2), 0, 0), "P10 loads");
+    ten = draft_from(1, "1000000000: 1; 1: -1");
+    check(t, is(load(d, table_of(&ten), 2), 7, 0), "P10 gives 7");
+}
+
+/* --- the text --- */
+
+static bool answers(const char *input, const char *output)
+{
+    char out[MOST_ANSWER];
+    size_t length = program_answer((const unsigned char *)input, strlen(input), out);
+    return length == strlen(output) && memcmp(out, output, length) == 0;
+}
+
+static void check_texts(struct tally *t)
+{
+    check(t, answers("vars=1\nbudget=100\nrows=2\nweight=3\nlits=1\nweight=2\nlits=-1\n",
+                     "status=done\nweight=2\nnodes=3\nreading=1\n"), "the whole example");
+    check(t, answers("vars=0\nbudget=1\nrows=0\n", "status=done\nweight=0\nnodes=1\nreading=\n"), "P1");
+    check(t, answers("vars=0\nbudget=0\nrows=0\n", "status=stopped\nweight=none\nnodes=0\nreading=none\n"),
+          "P1, budget 0");
+    check(t, answers("vars=3\nbudget=6\nrows=5\nweight=1\nlits=1\nweight=1\nlits=-1 2\nweight=1\nlits=-1 -2\nweight=1\n"
+                     "lits=-1 3\nweight=1\nlits=-1 -3\n", "status=stopped\nweight=2\nnodes=6\nreading=1 2 3\n"), "P4");
+    check(t, answers("vars=1\nbudget=9\nrows=1\nweight=7\nlits=\n", "status=done\nweight=7\nnodes=3\nreading=1\n"), "P9");
+    check(t, answers("", "status=refused\nnumber=20\nplace=1\n"), "empty");
+    check(t, answers("vars=1\nbudget=9\nrows=1\nweight=7\nlits=", "status=refused\nnumber=20\nplace=5\n"), "unended");
+    check(t, answers("vars=1\nbudget=9\nrows=1\nweight=7\nlits=\n\n", "status=refused\nnumber=20\nplace=6\n"), "surplus");
+    check(t, answers("vars=65\nbudget=9\nrows=1\n", "status=refused\nnumber=1\nplace=0\n"), "1 before the rest");
+    check(t, answers("vars=1\nbudget=4294967296\nrows=999\n", "status=refused\nnumber=9\nplace=0\n"), "9 before 2");
+    check(t, answers("vars=1\nbudget=9\nrows=513\n", "status=refused\nnumber=2\nplace=0\n"), "2");
+    check(t, answers("vars=1\nbudget=9\nrows=2\nweight=1\nlits=\nweight=0\nlits=2\n",
+                     "status=refused\nnumber=5\nplace=1\n"), "5 before 6, place a row");
+    check(t, answers("vars=2\nbudget=9\nrows=2\nweight=1\nlits=\nweight=0\nlits=2\n",
+                     "status=refused\nnumber=6\nplace=1\n"), "6");
+    static char large[MOST_INPUT + 2];
+    memset(large, 'x', MOST_INPUT + 1);
+    check(t, answers(large, "status=refused\nnumber=19\nplace=0\n"), "65,537 bytes");
+    large[MOST_INPUT] = 0;
+    check(t, answers(large, "status=refused\nnumber=20\nplace=1\n"), "65,536 bytes");
+}
+
+/* The longest text that can be written: 54 weights of 8 digits and 458 of 7. */
+static void check_longest_text(struct tally *t)
+{
+    static char out[MOST_TEXT];
+    struct draft d = {.variables = MOST_VARIABLES};
+    struct clause all = {0};
+    size_t length = 0;
+    for (int v = 1; v <= MOST_VARIABLES; v++) all.literals[all.count++] = (signed char)-v;
+    for (int r = 0; r < MOST_LOADED; r++) add_row(&d, all, r < 54 ? 10000000 : 1000000);
+    check(t, is(write_text(table_of(&d), MOST_BUDGET, out, 136793, &length), 0, 0) && length == 136793, "its length");
+    check(t, is(write_text(table_of(&d), MOST_BUDGET, out, 136792, &length), 4, 0), "one byte less is 4");
+}
+
+/* --- scripts: what is printed, and that the checksum is of the words after the call --- */
+
+static bool prints(struct bench *b, const char *line, const char *answer, word check)
+{
+    char wanted[100], printed[100] = "";
+    FILE *out = tmpfile();
+    if (out == NULL || !run_line(b, line, out)) return false;
+    rewind(out);
+    bool any = fgets(printed, sizeof printed, out) != NULL;
+    fclose(out);
+    snprintf(wanted, sizeof wanted, "%s %" PRIu64 "\n", answer, check);
+    return any && strcmp(wanted, printed) == 0;
+}
+
+static void check_scripts(struct tally *t)
+{
+    word merge[] = {0, 1};
+    struct bench b = new_bench();
+    struct lent d = load_rows(1, "3: 1; 2: -1", 2);
+    word loaded = check_words(d.words, d.count);
+    rewrite(d, MERGE, merge, 2);
+    word merged = check_words(d.words, d.count), lent = desk_size(2), two[] = {5, 6};
+    check(t, check_words(two, 0) == 14695981039346656037u, "the checksum of nothing");
+    check(t, check_words(two, 1) == (14695981039346656037u ^ 5) * 1099511628211u, "the checksum of one word");
+    char line[60];
+    sprintf(line, "lend %" PRIu64 " 9", lent);
+    check(t, run_line(&b, "table 1 0 3 0 1 2", NULL) && run_line(&b, line, NULL), "settings");
+    check(t, prints(&b, "load 1 2", "ok", loaded) && prints(&b, "bound", "2", loaded), "load and bound");
+    check(t, prints(&b, "search 100", "done 2 1 3", loaded), "search");
+    check(t, prints(&b, "search 0", "stopped none none 0", loaded), "search without a reading");
+    check(t, prints(&b, "rewrite 1 0 1", "ok", merged) && prints(&b, "back", "ok", loaded), "merge and taking back");
+    check(t, prints(&b, "back", "refused 16 0", loaded) && prints(&b, "weight 1 0", "3", loaded), "a refusal");
+    check(t, prints(&b, "wellformed", "yes", loaded), "well formed");
+    check(t, !run_line(&b, "load 1", NULL) && !run_line(&b, "merge 0 1", NULL), "bad lines");
+    check(t, !run_line(&b, "back 1", NULL), "a word too many");
+    end_bench(&b);
+}
+
+#include "refusals.c"
+#include "laws.c"
+
+static int selftest(void)
+{
+    struct tally t = {0};
+    begin_family(&t, "P1 to P10");
+    check_p1_to_p4(&t);
+    check_p5_to_p7(&t);
+    check_p8_to_p10(&t);
+    end_family(&t);
+    begin_family(&t, "texts and answers");
+    check_texts(&t);
+    check_longest_text(&t);
+    end_family(&t);
+    begin_family(&t, "scripts");
+    check_scripts(&t);
+    end_family(&t);
+    check_refusals(&t);
+    check_laws(&t);
+    printf("%d passed, %d failed\n", t.all_passed, t.all_failed);
+    return t.all_failed == 0 ? 0 : 1;
+}

@@ -1,0 +1,146 @@
+/* Part of second.c: runs the vectors of the source documents. The form of a line is explained at the top of vectors.txt. */
+
+enum { VECTOR_FIELDS = 6 };
+
+static char *without_spaces(char *text)
+{
+    while (*text == ' ') text++;
+    for (size_t n = strlen(text); n > 0 && text[n - 1] == ' '; n--) text[n - 1] = 0;
+    return text;
+}
+
+/* Cuts the text in place; returns how many parts there are, at most `most`. */
+static int cut_into(char *text, char mark, char **parts, int most)
+{
+    int count = 0;
+    while (text != NULL && count < most) {
+        char *end = strchr(text, mark);
+        if (end != NULL) *end++ = 0;
+        parts[count++] = without_spaces(text);
+        text = end;
+    }
+    return count;
+}
+
+static bool begins(const char *text, const char *with) { return strncmp(text, with, strlen(with)) == 0; }
+
+static bool take_vector_step(struct lent d, const char *step)
+{
+    static const char *const kinds[] = {"decide", "merge", "shift", "chain", "fork"};
+    word named[16], kind, count = 0;
+    for (kind = DECIDE; kind <= FORK && !begins(step, kinds[kind]); kind++) continue;
+    if (kind > FORK) return false;
+    step += strlen(kinds[kind]);
+    if (kind == DECIDE) return decide(d, atoi(step)).number == 0;
+    char *end;
+    for (word row = strtoull(step, &end, 10); end != step && count < 16; row = strtoull(step, &end, 10)) {
+        named[count++] = row;
+        step = end;
+    }
+    return rewrite(d, kind, named, count).number == 0;
+}
+
+static bool is_left(const word *desk, word row, struct clause *remnant)
+{
+    struct partial p = standing(desk);
+    struct clause c = clause_of(desk_row(desk, row));
+    *remnant = remnant_of(&c, &p);
+    return !is_satisfied(&c, &p) && desk_row(desk, row)[2] > 0 && remnant->count > 0;
+}
+
+/* Crosses out of the draft one row with this remnant and weight. */
+static bool cross_out(struct draft *d, const struct clause *remnant, word weight)
+{
+    word row[ROW_WORDS];
+    put_clause(row, remnant, weight);
+    for (word r = 0; r < d->rows; r++) {
+        if (memcmp(d->words + ROW_WORDS * r, row, sizeof row) != 0) continue;
+        d->rows--;
+        memmove(d->words + ROW_WORDS * r, d->words + ROW_WORDS * d->rows, sizeof row);
+        return true;
+    }
+    return false;
+}
+
+static bool formula_is(const word *desk, char *rows)
+{
+    for (char *p = rows; *p != 0; p++)
+        if (*p == ',') *p = ';';
+    struct draft d = draft_from(0, rows);
+    for (word r = 0; r < desk[IN_USE]; r++) {
+        struct clause remnant;
+        if (is_left(desk, r, &remnant) && !cross_out(&d, &remnant, desk_row(desk, r)[2])) return false;
+    }
+    return d.rows == 0;
+}
+
+static word least_weight(struct lent d, bool *agreed)
+{
+    struct found f;
+    word weight, reading;
+    search(d, MOST_BUDGET, &f);
+    least_by_enumeration(d.words, &weight, &reading);
+    *agreed = f.done && f.kept && f.weight == weight && f.reading == reading;
+    return weight;
+}
+
+static word reading_from(const char *literals)
+{
+    word reading = 0;
+    int literal, used;
+    for (; sscanf(literals, " %d%n", &literal, &used) == 1; literals += used)
+        if (literal > 0) reading |= (word)1 << (literal - 1);
+    return reading;
+}
+
+static bool result_holds(struct lent d, char *result)
+{
+    const word *w = d.words;
+    unsigned n, row;
+    char *equals = strchr(result, '=');
+    bool agreed;
+    if (sscanf(result, "conceded %u", &n) == 1) return w[CONCEDED] == n;
+    if (sscanf(result, "lost %u", &n) == 1) return lost(w) == n;
+    if (sscanf(result, "bound %u", &n) == 1) return bound_is(d, n);
+    if (sscanf(result, "least %u", &n) == 1) return least_weight(d, &agreed) == n && agreed;
+    if (sscanf(result, "atleast %u", &n) == 1) return least_weight(d, &agreed) >= n && agreed;
+    if (sscanf(result, "row %u %u", &row, &n) == 2) return row < w[IN_USE] && desk_row(w, row)[2] == n;
+    if (begins(result, "weigh ") && equals != NULL)
+        return desk_weight(w, reading_from(result + 6)) == strtoull(equals + 1, NULL, 10);
+    if (begins(result, "formula ")) return formula_is(w, result + 8);
+    return false;
+}
+
+/* The first thing that does not hold, or NULL. */
+static const char *run_vector(char **fields)
+{
+    char *parts[40];
+    struct draft d = draft_from(strtoull(fields[2], NULL, 10), fields[3]);
+    if (load((struct lent){test_words, MOST_DESK}, table_of(&d), 100).number != 0) return "the rows do not load";
+    struct lent desk = {test_words, desk_size(100)};
+    int count = *fields[4] == 0 ? 0 : cut_into(fields[4], ';', parts, 40);
+    for (int i = 0; i < count; i++)
+        if (!take_vector_step(desk, parts[i])) return parts[i];
+    count = cut_into(fields[5], ';', parts, 40);
+    for (int i = 0; i < count; i++)
+        if (!result_holds(desk, parts[i])) return parts[i];
+    return NULL;
+}
+
+static int check_vectors(char *text)
+{
+    int passed = 0, failed = 0;
+    char *fields[VECTOR_FIELDS], *next;
+    for (char *line = text; line != NULL; line = next) {
+        next = strchr(line, '\n');
+        if (next != NULL) *next++ = 0;
+        if (*line == 0 || *line == '#') continue;
+        const char *wrong = "a line needs six fields";
+        if (cut_into(line, '|', fields, VECTOR_FIELDS) == VECTOR_FIELDS) wrong = run_vector(fields);
+        if (wrong == NULL) passed++;
+        else failed++;
+        if (wrong != NULL) printf("%s, %s: %s\n", fields[0], fields[1], wrong);
+    }
+    printf("%d passed, %d failed\n", passed, failed);
+    return failed == 0 ? 0 : 1;
+}

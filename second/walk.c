@@ -1,0 +1,145 @@
+/* Part of model.c: what is lost, the bound, the walk, and the enumeration that a finished walk is checked against. */
+
+/* The rows in use as literal lists, made once for many nodes. */
+struct sheet {
+    word conceded;
+    int variables;
+    int count;
+    struct clause rows[MOST_CAPACITY];
+    word weights[MOST_CAPACITY];
+};
+
+static struct sheet sheet_of(const word *desk)
+{
+    struct sheet s = {.conceded = desk[CONCEDED], .variables = (int)desk[VARIABLES], .count = (int)desk[IN_USE]};
+    for (int r = 0; r < s.count; r++) {
+        s.rows[r] = clause_of(desk_row(desk, (word)r));
+        s.weights[r] = desk_row(desk, (word)r)[2];
+    }
+    return s;
+}
+
+static word lost_under(const struct sheet *s, const struct partial *p)
+{
+    word weight = s->conceded;
+    for (int r = 0; r < s->count; r++)
+        if (!is_satisfied(&s->rows[r], p) && remnant_of(&s->rows[r], p).count == 0) weight += s->weights[r];
+    return weight;
+}
+
+static word bound_under(const struct sheet *s, const struct partial *p)
+{
+    word positive[MOST_VARIABLES + 1] = {0}, negative[MOST_VARIABLES + 1] = {0};
+    for (int r = 0; r < s->count; r++) {
+        int l;
+        if (is_satisfied(&s->rows[r], p)) continue;
+        struct clause left = remnant_of(&s->rows[r], p);
+        if (!is_unit(&left, &l)) continue;
+        if (l > 0) positive[l] += s->weights[r];
+        else negative[-l] += s->weights[r];
+    }
+    word total = lost_under(s, p);
+    for (int v = 1; v <= s->variables; v++) total += positive[v] < negative[v] ? positive[v] : negative[v];
+    return total;
+}
+
+word lost(const word *desk)
+{
+    struct sheet s = sheet_of(desk);
+    struct partial p = standing(desk);
+    return lost_under(&s, &p);
+}
+
+struct refusal bound(struct lent desk, word *answer)
+{
+    if (!well_formed(desk)) return refused(10);
+    struct sheet s = sheet_of(desk.words);
+    struct partial p = standing(desk.words);
+    *answer = bound_under(&s, &p);
+    return accepted();
+}
+
+struct walk {
+    struct sheet sheet;
+    word best;
+    bool kept;
+    word reading;
+    word nodes;
+    word budget;
+    bool stopped;
+};
+
+/* 0 when every variable is fixed. */
+static int next_variable(const struct walk *w, const struct partial *p)
+{
+    for (int v = 1; v <= w->sheet.variables; v++)
+        if (p->value[v] == 0) return v;
+    return 0;
+}
+
+static word reading_of(const struct partial *p)
+{
+    word reading = 0;
+    for (int v = 1; v <= MOST_VARIABLES; v++)
+        if (p->value[v] == 1) reading |= bit(v);
+    return reading;
+}
+
+static struct partial fix(struct partial p, int variable, int value)
+{
+    p.value[variable] = (signed char)value;
+    return p;
+}
+
+/* A node that is due. */
+static void visit(struct walk *w, struct partial p)
+{
+    if (w->nodes >= w->budget) {
+        w->stopped = true;
+        return;
+    }
+    w->nodes++;
+    word b = bound_under(&w->sheet, &p);
+    if (b >= w->best) return;
+    int v = next_variable(w, &p);
+    if (v == 0) {
+        w->best = b;
+        w->kept = true;
+        w->reading = reading_of(&p);
+        return;
+    }
+    visit(w, fix(p, v, 1));
+    visit(w, fix(p, v, -1));
+}
+
+struct refusal search(struct lent desk, uint32_t budget, struct found *answer)
+{
+    if (!well_formed(desk)) return refused(10);
+    struct walk w = {.sheet = sheet_of(desk.words), .budget = budget};
+    w.best = (word)conceded_and_weights(desk.words, desk.words[IN_USE]) + 1;
+    visit(&w, standing(desk.words));
+    *answer = (struct found){!w.stopped, w.kept, w.kept ? w.best : 0, w.reading, w.nodes};
+    return accepted();
+}
+
+static void enumerate(const word *desk, struct partial p, int v, word *weight, word *reading, bool *any)
+{
+    if ((word)v > desk[VARIABLES]) {
+        word r = reading_of(&p), now = desk_weight(desk, r);
+        if (!*any || now < *weight) {
+            *weight = now;
+            *reading = r;
+        }
+        *any = true;
+        return;
+    }
+    bool decided = has_bit(desk[DECIDED], v);
+    if (!decided || has_bit(desk[DECIDED_TRUE], v)) enumerate(desk, fix(p, v, 1), v + 1, weight, reading, any);
+    if (!decided || !has_bit(desk[DECIDED_TRUE], v)) enumerate(desk, fix(p, v, -1), v + 1, weight, reading, any);
+}
+
+void least_by_enumeration(const word *desk, word *weight, word *reading)
+{
+    bool any = false;
+    enumerate(desk, (struct partial){{0}}, 1, weight, reading, &any);
+}
