@@ -2,7 +2,6 @@ use mathlib.Core.Path.{_≡_, ap, sym, _∙_, subst}
 use Rattle.desk.proofs.Limits.{over-at-once, left-at-first, over-here, left-after, never-over}
 -- `sum_over` meets its contract: what is left, with the start and the rows passed, is the limit; past it the sum only grows.
 use Prim.Native.Nat.{ℕ, _+_, _*_, _≤_, _<_, _-_}
-
 use mathlib.Core.List.{List}
 use native.Mathlib.Omega.{arith}
 use borrow.Author.Tests.{lt-ltb, le-ltb}
