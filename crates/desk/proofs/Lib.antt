@@ -1,2 +1,5 @@
+pub mod Branches
+pub mod Laid
 pub mod Limits
+pub mod Loading
 pub mod Rows

@@ -3,10 +3,15 @@ ghost use mathlib.Core.Path.{_≡_};
 ghost use Prim.Native.Nat.{_+_, _*_, _≤_, _<_};
 ghost use lib.ListN.{length, getD, set};
 ghost use Rattle.rules.specs.Table.{rowIn, rowWords};
-ghost use Rattle.rules.specs.Desk.{headWords, rowOn, setRow, setWeight};
+ghost use lib.Seq.{sets};
+ghost use Rattle.rules.specs.Desk.{headWords, entryWords, rowOn, setRow, setWeight};
+ghost use Rattle.rules.specs.Decide.{entered};
+ghost use Rattle.rules.specs.TakeBack.{lastPlace, withdrawn};
+ghost use Rattle.desk.specs.Room.{EntryLeft, StepStands};
 ghost use Rattle.masks.specs.Words.{zeroed};
 use literals::Lits;
 use rules::Desk;
+use rules::Entry;
 use rules::Row;
 
 // The row whose words begin at a place.
@@ -54,4 +59,49 @@ pub fn zero(desk: &mut [u64], at: usize, n: usize)
         desk[at + i] = 0;
         i += 1;
     }
+}
+
+// A step gets the next entry, and one more stands.
+pub fn enter(desk: &mut [u64], entry: [u64; 16])
+    requires { ⌜ EntryLeft (now desk) ⌝ }
+    ensures { λ _. ⌜ now (desk .exit) ≡ entered (now (desk .entry)) entry ⌝ }
+{
+    let c = desk[2] as usize;
+    let n = desk[3];
+    store(desk, Desk::HEAD + Row::WORDS * c + Entry::WORDS * (n as usize), entry);
+    desk[3] = n + 1;
+}
+
+// The words of an entry, from a place on.
+fn store(desk: &mut [u64], at: usize, entry: [u64; 16])
+    requires { ⌜ at + entryWords ≤ length (now desk) ⌝ }
+    ensures { λ _. ⌜ now (desk .exit) ≡ sets (now (desk .entry)) at entry ⌝ }
+{
+    let mut i = 0;
+    while i < Entry::WORDS {
+        desk[at + i] = entry[i];
+        i += 1;
+    }
+}
+
+// A word of the last entry.
+pub fn last_word(desk: &[u64], k: usize) -> u64
+    requires { ⌜ StepStands (now desk) ⌝ }
+    requires { ⌜ k < entryWords ⌝ }
+    ensures { λ r. ⌜ r ≡ getD (now (desk .entry)) (lastPlace (now (desk .entry)) + k) 0 ⌝ }
+{
+    let c = desk[2] as usize;
+    let n = desk[3] as usize;
+    desk[Desk::HEAD + Row::WORDS * c + Entry::WORDS * (n - 1) + k]
+}
+
+// The last entry is zeroed, and one less stands.
+pub fn withdraw(desk: &mut [u64])
+    requires { ⌜ StepStands (now desk) ⌝ }
+    ensures { λ _. ⌜ now (desk .exit) ≡ withdrawn (now (desk .entry)) ⌝ }
+{
+    let c = desk[2] as usize;
+    let n = desk[3];
+    zero(desk, Desk::HEAD + Row::WORDS * c + Entry::WORDS * (n as usize - 1), Entry::WORDS);
+    desk[3] = n - 1;
 }

@@ -49,6 +49,15 @@ and-swap true false true d = refl
 and-swap true false false d = refl
 and-swap false b c d = refl
 
+-- neither of two that fail together holds
+pub or-left : (a b : Bool) → (a || b) ≡ false → a ≡ false
+or-left true b e = e
+or-left false b e = refl
+
+pub or-right : (a b : Bool) → (a || b) ≡ false → b ≡ false
+or-right true b e = absurd (clash refl e)
+or-right false b e = e
+
 pub or-cases : (a b : Bool) → (a || b) ≡ true → (a ≡ true) ⊎ (b ≡ true)
 or-cases true b e = inl refl
 or-cases false b e = inr e

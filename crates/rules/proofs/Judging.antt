@@ -2,11 +2,12 @@
 use Prim.Native.Nat.{ℕ}
 use mathlib.Core.Path.{_≡_, refl}
 use mathlib.Core.Bool.{Bool, true, false}
+use mathlib.Core.List.{List}
 use native.Mathlib.Omega.{arith}
 use Rattle.rules.specs.declared.Refusal.{Refusal}
 use Rattle.rules.specs.declared.Judged.{Judged}
 use Rattle.rules.specs.declared.Judged.the-variants.{Fine, Refused}
-use Rattle.rules.specs.Refusals.{refuse, inOrder, isFine}
+use Rattle.rules.specs.Refusals.{refuse, inOrder, isFine, unlessRefused}
 
 pub never-fine : (r : Refusal) → Refused r ≡ Fine → ⊥
 never-fine r e = let z : _≡_ {A = ℕ} 0 1 = cc in omega arith
@@ -25,3 +26,10 @@ is-fine (Refused r) e = let z : _≡_ {A = Bool} true false = cc in absurd (dist
   where
     distinct : true ≡ false → ⊥
     distinct e = let z : _≡_ {A = ℕ} 0 1 = cc in omega arith
+
+-- the words after a call that is fine, and after one that is refused
+pub words-fine : (j : Judged) (step found : List ℕ) → j ≡ Fine → unlessRefused j step found ≡ step
+words-fine j step found e = rw e
+
+pub words-refused : (j : Judged) (step found : List ℕ) (r : Refusal) → j ≡ Refused r → unlessRefused j step found ≡ found
+words-refused j step found r e = rw e
