@@ -2,7 +2,8 @@
 -- at most. And the two sums of a variable as they grow by a row.
 use Prim.Native.Nat.{ℕ, _+_, _*_, _≤_, _<_}
 use mathlib.Core.List.{List}
-use mathlib.Core.Bool.{Bool, cond, not, _&&_}
+use mathlib.Core.Path.{_≡_}
+use mathlib.Core.Bool.{Bool, true, cond, not, _&&_}
 use native.Mathlib.Nat.{min-le-left}
 use native.Mathlib.Omega.{arith}
 use Rattle.masks.specs.Masks.{has}
@@ -14,8 +15,9 @@ use Rattle.literals.specs.Lits.{isEmpty, sameLits}
 use Rattle.rules.specs.declared.Row.{Row}
 use Rattle.rules.specs.declared.Part.{Part}
 use Rattle.rules.specs.Table.{mostWeight}
-use Rattle.rules.specs.Desk.{variables, inUse, conceded, rowOn, weightOn, satisfied, remnant}
+use Rattle.rules.specs.Desk.{variables, inUse, conceded, rowOn, rowPlace, deskWords, wellFormed, weightOn, satisfied, remnant}
 use Rattle.rules.specs.Bound.{weightWhere, lostBeyond, unitWeight, foreseenAt, foreseen}
+use Rattle.walk_laws.proofs.Formed.{formed}
 use Rattle.bound.specs.Units.{Readable, positiveUnit, negativeUnit}
 
 pub where-le : (test : Lits → Bool) (p : Part) (row : Row) → weightWhere test p row ≤ row .weight
@@ -65,3 +67,10 @@ module _ (d : List ℕ) (readable : Readable d) (p : Part) where
   pub foreseen-fits : foreseen d p ≤ 64 * mostWeight
   unfolding foreseen
   foreseen-fits = upto-fits (variables d) (readable .bits)
+
+-- a well-formed desk can be read
+pub readable : (d : List ℕ) → wellFormed d ≡ true → Readable d
+unfolding deskWords rowPlace
+readable d h =
+    let f = formed d h in
+    record { rows = omega (arith, f .reaching, f .fitting); weights = f .light; bits = f .named }

@@ -3,6 +3,7 @@ ghost use mathlib.Core.Path.{_≡_};
 ghost use mathlib.Core.Bool.{cond};
 ghost use Prim.Native.Nat.{_<_};
 ghost use Rattle.masks.specs.Masks.{has};
+ghost use Rattle.rules.specs.Desk.{decisions};
 ghost use Rattle.rules.specs.Bound.{lostBeyond, foreseenAt, foreseen, bound};
 ghost use Rattle.bound.specs.Units.{Readable};
 use crate::rests::lost_by;
@@ -10,6 +11,15 @@ use crate::rests::units_by;
 use desk::inner::row_on;
 use rules::Desk;
 use rules::Part;
+
+// The decisions of a desk as a partial reading.
+pub fn decisions(desk: &[u64]) -> Part
+    ensures { λ r. ⌜ r ≡ decisions (now (desk .entry)) ⌝ }
+{
+    let decided = rules::word(desk, 5);
+    let truths = rules::word(desk, 6);
+    Part { decided, truths }
+}
 
 // The weights of unsatisfied rows with an empty remnant.
 fn lost_beyond(desk: &[u64], p: Part) -> u64

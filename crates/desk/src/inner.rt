@@ -68,7 +68,11 @@ pub fn enter(desk: &mut [u64], entry: [u64; 16])
 {
     let c = desk[2] as usize;
     let n = desk[3];
-    store(desk, Desk::HEAD + Row::WORDS * c + Entry::WORDS * (n as usize), entry);
+    store(
+        desk,
+        Desk::HEAD + Row::WORDS * c + Entry::WORDS * (n as usize),
+        entry,
+    );
     desk[3] = n + 1;
 }
 
@@ -102,6 +106,10 @@ pub fn withdraw(desk: &mut [u64])
 {
     let c = desk[2] as usize;
     let n = desk[3];
-    zero(desk, Desk::HEAD + Row::WORDS * c + Entry::WORDS * (n as usize - 1), Entry::WORDS);
+    zero(
+        desk,
+        Desk::HEAD + Row::WORDS * c + Entry::WORDS * (n as usize - 1),
+        Entry::WORDS,
+    );
     desk[3] = n - 1;
 }

@@ -1,24 +1,21 @@
 -- A search that is done found a reading of the least weight, and of those the first: its walk is the scan of all leaves, the leaves are
 -- the readings that keep the decisions, in order, and all weigh less than the best that the walk starts with.
 -- It is stated for any sound bound and any order, and then for the bound of document 01 with true before false.
-use Prim.Native.Nat.{ℕ, _+_, _^_, _≤_, _<_}
+use Prim.Native.Nat.{ℕ, _+_, _≤_}
 use mathlib.Core.Path.{_≡_, refl, sym, ap, _∙_, subst}
 use mathlib.Core.List.{List, _∷_, _++_, List·Memᴰ, List·Memᴰ·head, List·Memᴰ·append-cases, List·Memᴰ·cases-cons, Memᴰ·append-right}
-use mathlib.Core.Bool.{Bool, true, false, _&&_}
+use mathlib.Core.Bool.{Bool, true, false}
 use mathlib.Core.Logic.{_⊎_, inl, inr, ⊎-elim}
 use native.Mathlib.Omega.{arith}
-use borrow.Author.Tests.{eqb-true, eq-eqb, leb-true}
+use borrow.Author.Tests.{eqb-true, eq-eqb}
 use lib.Bits.{bitAnd}
-use lib.Dec.{eqb, leb}
-use Rattle.masks.specs.Masks.{without, none, below}
+use lib.Dec.{eqb}
+use Rattle.masks.specs.Masks.{below}
 use Rattle.masks.proofs.Choice.{and-left, and-right, both, clash}
 use Rattle.masks.proofs.Bits.{below-lt, lt-below}
-use Rattle.masks.proofs.Sets.{zero-none}
-use Rattle.literals.specs.Literal.{mostVariables}
 use Rattle.rules.specs.declared.Part.{Part}
 use Rattle.rules.specs.declared.Walked.{Walked}
-use Rattle.rules.specs.Desk.{variables, inUse, capacity, standing, loaded, decided, truths, mostSteps, reaches, inLimits, rowsSound, weightFits, masksNest, wellFormed, weightOn, decisions, deskWeighs, keeps}
-use Rattle.rules.specs.Table.{mostRows}
+use Rattle.rules.specs.Desk.{variables, decided, truths, wellFormed, weightOn, decisions, deskWeighs, keeps}
 use Rattle.rules.specs.Bound.{lost, bound}
 use Rattle.rules.specs.Walk.{undecided, atStart, walkOf}
 use Rattle.walk_laws.specs.Scan.{leaves, Below, Chosen, chosen, scan, met, Least, Sound, Before, Earlier, Node, WithinBudget}
@@ -28,36 +25,14 @@ use Rattle.walk_laws.proofs.Walks.{leaf-below, below-leaf, finished}
 use Rattle.walk_laws.proofs.Counting.{counted}
 use Rattle.walk_laws.proofs.Meeting.{member-of-sublist, met-leaves, walk-met-weights}
 use Rattle.walk_laws.proofs.Bounds.{lost-below, lost-at-leaf, bound-below, bound-at-leaf, weighs-most}
+use Rattle.walk_laws.proofs.Formed.{Formed, formed}
 use Rattle.walk_laws.proofs.Nodes.{node-truths, node-full, node-itself, node-deeper, leaf-node, leaf-extends, leaf-of}
 use Rattle.walk_laws.proofs.Orders.{earlier-before, earlier-behind}
-
--- ---- what well formed gives
-
-pub record Formed (d : List ℕ) : Type 0 where
-  pub fits : variables d ≤ 64
-  pub sound : rowsSound d ≡ true
-  pub nested : without (truths d) (decided d) ≡ 0
-  pub within : decided d < 2 ^ variables d
-
-pub formed : (d : List ℕ) → wellFormed d ≡ true → Formed d
-unfolding wellFormed inLimits masksNest
-formed d h =
-    let rest = and-right (reaches d) (inLimits d && (rowsSound d && (weightFits d && masksNest d))) h in
-    let limits = and-left (inLimits d) (rowsSound d && (weightFits d && masksNest d)) rest in
-    let rows = and-right (inLimits d) (rowsSound d && (weightFits d && masksNest d)) rest in
-    let nest = and-right (weightFits d) (masksNest d) (and-right (rowsSound d) (weightFits d && masksNest d) rows) in
-    record {
-      fits = leb-true (variables d) mostVariables (and-left (leb (variables d) mostVariables)
-          (leb (loaded d) mostRows && (leb (loaded d) (inUse d) && (leb (inUse d) (capacity d) && leb (standing d) mostSteps))) limits);
-      sound = and-left (rowsSound d) (weightFits d && masksNest d) rows;
-      nested = zero-none (without (truths d) (decided d)) (and-left (none (without (truths d) (decided d))) (below (decided d) (variables d)) nest);
-      within = below-lt (decided d) (variables d) (and-right (none (without (truths d) (decided d))) (below (decided d) (variables d)) nest);
-    }
 
 -- the walk starts at a node
 pub root : (d : List ℕ) → Formed d → Node (variables d) (undecided (variables d) (decided d)) (decisions d)
 unfolding decisions
-root d f = record { fits = f .fits; nested = f .nested; within = f .within; left = refl }
+root d f = record { fits = f .named; nested = f .nested; within = f .within; left = refl }
 
 -- ---- the leaves are the readings that keep the decisions
 
@@ -82,7 +57,7 @@ module _ (d : List ℕ) (f : Formed d) where
   bound-sound =
       record {
         deeper = λ node value. node-deeper node value;
-        atMost = λ {vs} {p} {q} node b. bound-below d p (q .truths) (leaf-extends node b) (f .fits);
+        atMost = λ {vs} {p} {q} node b. bound-below d p (q .truths) (leaf-extends node b) (f .named);
         atLeaf = λ {p} node. bound-at-leaf d p (f .sound) (node-itself node) (node-full node);
       }
 
