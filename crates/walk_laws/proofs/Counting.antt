@@ -7,7 +7,6 @@ use mathlib.Core.List.{List, [], _∷_}
 use mathlib.Core.Bool.{Bool, false, not}
 use native.Mathlib.Nat.{pow-suc}
 use native.Mathlib.Omega.{arith}
-use borrow.Author.Tests.{lt-ltb, le-leb, lt-leb}
 use lib.ListN.{length}
 use lib.Pow.{pow-pos}
 use Rattle.masks.proofs.Choice.{clash}
@@ -15,15 +14,8 @@ use Rattle.rules.specs.declared.Part.{Part}
 use Rattle.rules.specs.declared.Walked.{Walked}
 use Rattle.rules.specs.Walk.{fixed, visited, keptAt, halted, entering, walk}
 use Rattle.walk_laws.specs.Scan.{WithinBudget}
+use Rattle.walk_laws.proofs.Branches.{enter-cut, enter-on}
 use Rattle.walk_laws.proofs.Walks.{entered, was-running}
-
--- ---- the three ways, one at a time
-
-pub enter-cut : (budget b : ℕ) (s beyond : Walked) → s .nodes < budget → s .best ≤ b → entering budget b s beyond ≡ visited s
-enter-cut budget b s beyond r c = rw (lt-ltb (s .nodes) budget r, le-leb (s .best) b c)
-
-pub enter-on : (budget b : ℕ) (s beyond : Walked) → s .nodes < budget → b < s .best → entering budget b s beyond ≡ beyond
-enter-on budget b s beyond r c = rw (lt-ltb (s .nodes) budget r, lt-leb (s .best) b c)
 
 module _ (bound : Part → ℕ) (first : ℕ → Bool) (budget : ℕ) where
   -- ---- never above the budget, and at it where stopped

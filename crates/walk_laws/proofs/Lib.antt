@@ -1,4 +1,5 @@
 pub mod Scans
+pub mod Branches
 pub mod Walks
 pub mod Counting
 pub mod Meeting

@@ -1,6 +1,6 @@
 -- `bound` meets its contract: a well-formed desk can be read, and any other is refused.
 use borrow.Author.Needs.{needs}
-use mathlib.Core.Path.{_≡_, sym, ap, _∙_}
+use mathlib.Core.Path.{sym, ap, _∙_}
 use Prim.Native.Nat.{ℕ}
 use Rattle.rules.specs.declared.Part.{Part}
 use Rattle.rules.specs.declared.Bounded.{Bounded}
