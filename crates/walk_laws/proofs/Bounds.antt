@@ -22,7 +22,7 @@ use Rattle.rules.specs.declared.Part.{Part}
 use Rattle.rules.specs.Table.{badLits, holds, givenUp}
 use Rattle.rules.specs.Desk.{variables, inUse, conceded, rowOn, rowsSound, satisfied, remnant, deskWeighs, weightOn}
 use Rattle.rules.specs.Bound.{weightWhere, lostBeyond, lost, unitWeight, foreseenAt, foreseen, bound}
-use Rattle.walk_laws.specs.Scan.{Extends}
+use Rattle.walk_laws.specs.Sound.{Extends}
 use Rattle.walk_laws.proofs.Remnants.{unit, missedAt, holds-split, holds-empty, empty-missed, row-once}
 
 -- ---- lost

@@ -11,19 +11,19 @@ use borrow.Author.Tests.{eqb-true, eq-eqb}
 use lib.Bits.{bitAnd}
 use lib.Dec.{eqb}
 use Rattle.masks.specs.Masks.{below}
-use Rattle.masks.proofs.Choice.{and-left, and-right, both, clash}
+use Rattle.masks.proofs.Choice.{and-left, and-right, both}
 use Rattle.masks.proofs.Bits.{below-lt, lt-below}
 use Rattle.rules.specs.declared.Part.{Part}
 use Rattle.rules.specs.declared.Walked.{Walked}
 use Rattle.rules.specs.Desk.{variables, decided, truths, wellFormed, weightOn, decisions, deskWeighs, keeps}
 use Rattle.rules.specs.Bound.{lost, bound}
 use Rattle.rules.specs.Walk.{undecided, atStart, walkOf}
-use Rattle.walk_laws.specs.Scan.{leaves, Below, Chosen, chosen, scan, met, Least, Sound, Before, Earlier, Node, WithinBudget}
+use Rattle.walk_laws.specs.Scan.{leaves, Chosen, chosen, Least}
+use Rattle.walk_laws.specs.Sound.{Below, Sound, Node}
+use Rattle.walk_laws.specs.Order.{Before, Earlier}
 use Rattle.walk_laws.specs.Right.{Right}
-use Rattle.walk_laws.proofs.Scans.{scan-outcome, scan-least, least-of-all}
+use Rattle.walk_laws.proofs.Scans.{scan-least, least-of-all}
 use Rattle.walk_laws.proofs.Walks.{leaf-below, below-leaf, finished}
-use Rattle.walk_laws.proofs.Counting.{counted}
-use Rattle.walk_laws.proofs.Meeting.{member-of-sublist, met-leaves, walk-met-weights}
 use Rattle.walk_laws.proofs.Bounds.{lost-below, lost-at-leaf, bound-below, bound-at-leaf, weighs-most}
 use Rattle.walk_laws.proofs.Formed.{Formed, formed}
 use Rattle.walk_laws.proofs.Nodes.{node-truths, node-full, node-itself, node-deeper, leaf-node, leaf-extends, leaf-of}
@@ -132,43 +132,3 @@ pub search-right : (d : List ℕ) (budget : ℕ) → wellFormed d ≡ true → w
 search-right d budget h =
     let f = formed d h in
     finished-right (bound d) (deskWeighs d) (λ v. true) d budget f (bound-sound d f) (weighs-most d)
-
--- ---- stopped or not
-
-module _ (b : Part → ℕ) (weight : ℕ → ℕ) (first : ℕ → Bool) (d : List ℕ) (budget : ℕ) (f : Formed d)
-    (sound : Sound (Node (variables d)) b weight) where
-  -- the count is never above the budget, and is the budget where the search is stopped
-  pub search-counted : WithinBudget budget (walkOf b first d budget)
-  unfolding walkOf atStart
-  search-counted =
-      counted b first budget (undecided (variables d) (decided d)) (decisions d) (atStart d)
-      (record { within = omega arith; atStop = λ e. absurd (clash e refl) })
-
-  -- what is kept is the best of the leaves met by that count
-  pub search-met :
-      chosen (walkOf b first d budget)
-      ≡ scan (λ q. weight (q .truths)) (met b first budget (undecided (variables d) (decided d)) (decisions d) (atStart d)) (chosen (atStart d))
-  unfolding walkOf
-  search-met = walk-met-weights b first budget sound (undecided (variables d) (decided d)) (decisions d) (atStart d) (root d f)
-
-  -- a reading that is kept keeps the decisions, and weighs what is said
-  pub search-kept : walkOf b first d budget .kept ≡ true
-      → (keeps d (walkOf b first d budget .reading) ≡ true) × (weight (walkOf b first d budget .reading) ≡ walkOf b first d budget .best)
-  unfolding atStart chosen
-  search-kept k =
-      let lefts : List ℕ = undecided (variables d) (decided d) in
-      let qs : List Part = met b first budget lefts (decisions d) (atStart d) in
-      let price : Part → ℕ = λ q. weight (q .truths) in
-      ⊎-elim
-      (λ (n : (scan price qs (chosen (atStart d)) ≡ chosen (atStart d)) × ((q : Part) → List·Memᴰ q qs → weightOn d + 1 ≤ weight (q .truths))).
-      absurd (clash k (ap (λ (c : Chosen). c .kept) (search-met ∙ n .0))))
-      (λ (l : Least price qs (weightOn d + 1) (scan price qs (chosen (atStart d)))).
-      let leaf : Part = l .leaf in
-      let reading : walkOf b first d budget .reading ≡ leaf .truths = ap (λ (c : Chosen). c .reading) (search-met ∙ l .isKept) in
-      let best : walkOf b first d budget .best ≡ weight (leaf .truths) = ap (λ (c : Chosen). c .best) (search-met ∙ l .isKept) in
-      let member : List·Memᴰ leaf qs =
-      subst (λ (rs : List Part). List·Memᴰ leaf rs) (sym (l .stands)) (Memᴰ·append-right (l .front) (List·Memᴰ·head refl)) in (
-        ap (keeps d) reading ∙ leaf-keeps d f leaf (leaf-below first lefts (decisions d) leaf (member-of-sublist (met-leaves b first budget lefts (decisions d) (atStart d)) member)),
-        ap weight reading ∙ sym best,
-      ))
-      (scan-outcome price qs (chosen (atStart d)))

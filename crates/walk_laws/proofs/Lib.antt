@@ -3,6 +3,7 @@ pub mod Branches
 pub mod Walks
 pub mod Counting
 pub mod Meeting
+pub mod Fewer
 pub mod Remnants
 pub mod Bounds
 pub mod Undecided
@@ -10,3 +11,4 @@ pub mod Nodes
 pub mod Formed
 pub mod Orders
 pub mod Done
+pub mod Budgets

@@ -14,7 +14,7 @@ use Rattle.masks.proofs.Bits.{has-ext, has-and, has-lt}
 use Rattle.masks.proofs.Sets.{within, within-of, within-and, within-le, put-lt, has-put-same, has-put-other, single-pow}
 use Rattle.rules.specs.declared.Part.{Part}
 use Rattle.rules.specs.Walk.{fixed, undecided}
-use Rattle.walk_laws.specs.Scan.{Below, here, there, Extends, Node}
+use Rattle.walk_laws.specs.Sound.{Below, here, there, Extends, Node}
 use Rattle.walk_laws.proofs.Undecided.{Lowest, undecided-head, all-decided}
 
 -- ---- what a node has

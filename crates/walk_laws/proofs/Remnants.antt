@@ -24,7 +24,7 @@ use Rattle.rules.specs.declared.Part.{Part}
 use Rattle.rules.specs.Table.{holds, givenUp}
 use Rattle.rules.specs.Desk.{satisfied, remnant}
 use Rattle.rules.specs.Bound.{weightWhere}
-use Rattle.walk_laws.specs.Scan.{Extends}
+use Rattle.walk_laws.specs.Sound.{Extends}
 
 -- ---- satisfied already, or by the remnant
 

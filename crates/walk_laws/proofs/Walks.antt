@@ -13,7 +13,8 @@ use Rattle.masks.proofs.Choice.{cases, clash, cond-elim}
 use Rattle.rules.specs.declared.Part.{Part}
 use Rattle.rules.specs.declared.Walked.{Walked}
 use Rattle.rules.specs.Walk.{fixed, visited, keptAt, halted, entering, walk}
-use Rattle.walk_laws.specs.Scan.{leaves, Below, here, there, chosen, scan, Sound}
+use Rattle.walk_laws.specs.Scan.{leaves, chosen, scan}
+use Rattle.walk_laws.specs.Sound.{Below, here, there, Sound}
 use Rattle.walk_laws.proofs.Scans.{take-passed, take-taken, scan-one, scan-append, scan-passed}
 
 -- ---- a node that is due is refused by the budget, cut, or entered

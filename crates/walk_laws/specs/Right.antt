@@ -6,7 +6,7 @@ use mathlib.Core.Bool.{Bool, true}
 use mathlib.Core.Logic.{_⊎_}
 use Rattle.rules.specs.declared.Walked.{Walked}
 use Rattle.rules.specs.Desk.{keeps}
-use Rattle.walk_laws.specs.Scan.{Before}
+use Rattle.walk_laws.specs.Order.{Before}
 
 -- of all readings that keep the decisions of d, by any weight and for any value that comes first
 pub record Right (weight : ℕ → ℕ) (first : ℕ → Bool) (d : List ℕ) (w : Walked) : Type 0 where
