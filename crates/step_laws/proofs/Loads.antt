@@ -1,0 +1,182 @@
+-- An accepted load: the desk is well formed and clean, no step stands, nothing is conceded or decided, and every reading weighs what it does on the table.
+-- The words come in four runs: the head, the table, zeros to the desk's end, and what lay past it; each place is read in its run.
+use Prim.Native.Nat.{ℕ, zero, suc, _+_, _-_, _*_, _%_, _≤_, _<_}
+use mathlib.Core.Path.{_≡_, refl, ap, ap₂, _∙_}
+use mathlib.Core.Bool.{Bool, not, _||_}
+use mathlib.Core.List.{List, [], _∷_, _++_}
+use native.Mathlib.Nat.{le-refl, zero-add}
+use native.Mathlib.Omega.{arith}
+use borrow.Author.Tests.{ltb-false, eqb-true, not-false}
+use lib.Dec.{eqb, ltb}
+use lib.ListN.{length, getD, drop, replicate, length-append, length-drop, length-replicate, getD-replicate, List·getD-append}
+use lib.Pow.{pow-pos}
+use lib.Seq.{getD-append-add}
+use Rattle.masks.specs.Sums.{sum}
+use Rattle.masks.proofs.Sets.{zero-without}
+use Rattle.masks.proofs.Sums.{sum-ext, upwards}
+use Rattle.literals.specs.Literal.{mostVariables}
+use Rattle.rules.specs.declared.Row.{Row}
+use Rattle.rules.specs.declared.Refusal.the-variants.{TooManyVariables, BadTable, BadCapacity, NoRoom, BadLiterals, BadWeight, SumTooLarge}
+use Rattle.rules.specs.declared.Judged.{Judged}
+use Rattle.rules.specs.declared.Judged.the-variants.{Fine}
+use Rattle.rules.specs.Refusals.{refuse, inOrder}
+use Rattle.rules.specs.Table.{rowWords, mostRows, mostWeight, rowIn, rowOf, rowCount, givenUp, weighs, badTable, badLits, badWeight, rowWhy, rowsWhy, sumTooLarge}
+use Rattle.rules.specs.Desk.{mostCapacity, mostSteps, entryWords, variables, inUse, capacity, standing, conceded, decided, truths, loaded, rowPlace, entryPlace, deskWords, rowOn, weightOn, deskWeighs, loadWhy, loadStep}
+use Rattle.step_laws.specs.Clean.{Clean}
+use Rattle.step_laws.proofs.Formed.{Sound, sound-of, Formed}
+use Rattle.step_laws.proofs.Verdicts.{past, past-both, neither}
+
+pub record Loaded (n : ℕ) (table : List ℕ) (c : ℕ) (d : List ℕ) : Type 0 where
+  pub counted : n ≤ mostVariables
+  pub whole : length table ≡ rowWords * rowCount table
+  pub few : rowCount table ≤ mostRows
+  pub space : rowCount table ≤ c
+  pub roomy : c ≤ mostCapacity
+  pub long : deskWords c ≤ length d
+  pub sound : (i : ℕ) → i < rowCount table → Sound n (rowOf table i .lits)
+  pub light : sum (rowCount table) (λ i. rowOf table i .weight) ≤ mostWeight
+
+rows-fine : (n : ℕ) (table : List ℕ) (k : ℕ) → rowsWhy n table k ≡ Fine → (i : ℕ) → i < k → Sound n (rowOf table i .lits)
+unfolding rowsWhy rowWhy
+rows-fine n table zero e i h = absurd (omega arith)
+rows-fine n table (suc k) e i h =
+    let parts = past-both (rowsWhy n table k) (rowWhy n k (rowOf table k)) e in
+    let row = past (badLits n (rowOf table k .lits)) (BadLiterals k) (refuse (badWeight (rowOf table k .weight)) (BadWeight k) Fine) (parts .1) in
+    upwards {P = λ i. Sound n (rowOf table i .lits)} (rows-fine n table k (parts .0)) (sound-of n (rowOf table k .lits) (row .0)) i h
+
+pub load-fine : (n : ℕ) (table : List ℕ) (c : ℕ) (d : List ℕ) → loadWhy n table c d ≡ Fine → Loaded n table c d
+unfolding loadWhy badTable sumTooLarge rowCount
+load-fine n table c d e =
+    let rows : Judged = rowsWhy n table (rowCount table) in
+    let heavy : Bool = ltb mostWeight (sum (rowCount table) (λ i. rowOf table i .weight)) in
+    let last : Judged = inOrder rows (refuse heavy SumTooLarge Fine) in
+    let odd : Bool = not (eqb (length table % rowWords) 0) || ltb mostRows (rowCount table) in
+    let cap : Bool = ltb c (rowCount table) || ltb mostCapacity c in
+    let a = past (ltb mostVariables n) TooManyVariables (refuse odd BadTable (refuse cap BadCapacity (refuse (ltb (length d) (deskWords c)) NoRoom last))) e in
+    let b = past odd BadTable (refuse cap BadCapacity (refuse (ltb (length d) (deskWords c)) NoRoom last)) (a .1) in
+    let g = past cap BadCapacity (refuse (ltb (length d) (deskWords c)) NoRoom last) (b .1) in
+    let h = past (ltb (length d) (deskWords c)) NoRoom last (g .1) in
+    let r = past-both rows (refuse heavy SumTooLarge Fine) (h .1) in
+    let shape = neither (not (eqb (length table % rowWords) 0)) (ltb mostRows (rowCount table)) (b .0) in
+    let caps = neither (ltb c (rowCount table)) (ltb mostCapacity c) (g .0) in
+    record {
+      counted = ltb-false mostVariables n (a .0);
+      whole = omega (arith, eqb-true (length table % rowWords) 0 (not-false (eqb (length table % rowWords) 0) (shape .0)));
+      few = ltb-false mostRows (rowCount table) (shape .1);
+      space = ltb-false c (rowCount table) (caps .0);
+      roomy = ltb-false mostCapacity c (caps .1);
+      long = ltb-false (length d) (deskWords c) (h .0);
+      sound = rows-fine n table (rowCount table) (r .0);
+      light = ltb-false mostWeight (sum (rowCount table) (λ i. rowOf table i .weight)) (past heavy SumTooLarge Fine (r .1) .0);
+    }
+
+module _ (n : ℕ) (table : List ℕ) (c : ℕ) (d : List ℕ) (ok : Loaded n table c d) where
+  abbrev after : List ℕ
+  after = loadStep n table c d
+
+  abbrev zeros : List ℕ
+  zeros = replicate (rowWords * c - length table + mostSteps * entryWords) 0
+
+  abbrev head : List ℕ
+  head = n ∷ rowCount table ∷ c ∷ 0 ∷ 0 ∷ 0 ∷ 0 ∷ rowCount table ∷ []
+
+  -- past the head
+  past-head : (k : ℕ) → getD after (8 + k) 0 ≡ getD (table ++ (zeros ++ drop (deskWords c) d)) k 0
+  unfolding loadStep
+  past-head k = getD-append-add head (table ++ (zeros ++ drop (deskWords c) d)) k 0
+
+  in-table : (k : ℕ) → k < length table → getD after (8 + k) 0 ≡ getD table k 0
+  in-table k h = past-head k ∙ List·getD-append table (zeros ++ drop (deskWords c) d) 0 k h
+
+  in-zeros : (p : ℕ) → 8 + length table ≤ p → p < deskWords c → getD after p 0 ≡ 0
+  unfolding deskWords rowPlace
+  in-zeros p a b =
+      let k : ℕ = p - (8 + length table) in
+      let e : p ≡ 8 + (length table + k) = omega arith in
+      let l : k < rowWords * c - length table + mostSteps * entryWords = omega (arith, ok .whole, ok .space) in
+      let z : k < length zeros = rw (length-replicate {A = ℕ} (rowWords * c - length table + mostSteps * entryWords) 0) l in
+      ap (λ (q : ℕ). getD after q 0) e ∙ past-head (length table + k)
+      ∙ getD-append-add table (zeros ++ drop (deskWords c) d) k 0 ∙ List·getD-append zeros (drop (deskWords c) d) 0 k z
+      ∙ getD-replicate (rowWords * c - length table + mostSteps * entryWords) k 0 0 l
+
+  pub length-loaded : length after ≡ length d
+  unfolding loadStep deskWords rowPlace
+  length-loaded =
+      let rest : List ℕ = drop (deskWords c) d in
+      let m : ℕ = rowWords * c - length table + mostSteps * entryWords in
+      let e : length (table ++ (zeros ++ rest)) ≡ length table + (m + (length d - deskWords c)) =
+      length-append table (zeros ++ rest)
+      ∙ ap (λ (x : ℕ). length table + x) (length-append zeros rest ∙ ap₂ (λ (x y : ℕ). x + y) (length-replicate {A = ℕ} m 0) (length-drop (deskWords c) d)) in
+      omega (arith, ok .whole, ok .space, ok .long)
+
+  pub loaded-row : (i : ℕ) → i < rowCount table → rowOn after i ≡ rowOf table i
+  unfolding rowOn rowOf rowIn rowPlace
+  loaded-row i h =
+      let p : 8 + 3 * i + 1 ≡ 8 + (3 * i + 1) = omega arith in
+      let q : 8 + 3 * i + 2 ≡ 8 + (3 * i + 2) = omega arith in
+      let a : getD after (8 + 3 * i) 0 ≡ getD table (3 * i) 0 = in-table (3 * i) (omega (arith, ok .whole)) in
+      let b : getD after (8 + 3 * i + 1) 0 ≡ getD table (3 * i + 1) 0 = rw p (in-table (3 * i + 1) (omega (arith, ok .whole))) in
+      let w : getD after (8 + 3 * i + 2) 0 ≡ getD table (3 * i + 2) 0 = rw q (in-table (3 * i + 2) (omega (arith, ok .whole))) in
+      λ t. record { lits = record { positive = a t; negative = b t }; weight = w t }
+
+  pub loaded-use : inUse after ≡ rowCount table
+  unfolding loadStep
+  loaded-use = refl
+
+  pub loaded-capacity : capacity after ≡ c
+  unfolding loadStep
+  loaded-capacity = refl
+
+  pub loaded-variables : variables after ≡ n
+  unfolding loadStep
+  loaded-variables = refl
+
+  -- nothing stands, nothing is conceded or decided
+  pub loaded-rest : (standing after ≡ 0) × (conceded after ≡ 0) × (decided after ≡ 0) × (truths after ≡ 0)
+  unfolding loadStep
+  loaded-rest = (refl, refl, refl, refl)
+
+  pub loaded-loaded : loaded after ≡ rowCount table
+  unfolding loadStep
+  loaded-loaded = refl
+
+  pub loaded-formed : Formed after
+  unfolding weightOn
+  loaded-formed =
+      let weights : sum (rowCount table) (λ i. rowOn after i .weight) ≡ sum (rowCount table) (λ i. rowOf table i .weight) =
+      sum-ext (rowCount table) (λ i h. ap (λ (r : Row). r .weight) (loaded-row i h)) in
+      record {
+        roomy = rw loaded-capacity (ok .roomy);
+        reaching = rw (loaded-capacity, length-loaded) (ok .long);
+        named = rw loaded-variables (ok .counted);
+        loads = rw loaded-loaded (ok .few);
+        kept = rw (loaded-loaded, loaded-use) (le-refl (rowCount table));
+        fitting = rw (loaded-use, loaded-capacity) (ok .space);
+        steps = rw (loaded-rest .0) (omega arith);
+        sound = λ i h.
+            let l : i < rowCount table = rw loaded-use at h in
+            rw (loaded-variables, loaded-row i l) (ok .sound i l);
+        light = rw (loaded-rest .1, loaded-use, weights) (omega (arith, ok .light));
+        nested = rw (loaded-rest .2, loaded-rest .3) (zero-without 0);
+        within = rw (loaded-rest .2, loaded-variables) (pow-pos n);
+      }
+
+  pub loaded-clean : Clean after
+  unfolding entryPlace deskWords rowPlace
+  loaded-clean =
+      record {
+        rows = λ p a b.
+            let here : rowPlace (rowCount table) ≤ p = rw loaded-use at a in
+            let there : p < rowPlace c = rw loaded-capacity at b in
+            in-zeros p (omega (arith, ok .whole)) (omega arith);
+        entries = λ p a b.
+            let here : rowPlace c + entryWords * 0 ≤ p = rw (loaded-capacity, loaded-rest .0) at a in
+            let there : p < deskWords c = rw loaded-capacity at b in
+            in-zeros p (omega (arith, ok .whole, ok .space)) there;
+      }
+
+  pub loaded-weighs : (reading : ℕ) → deskWeighs after reading ≡ weighs table reading
+  unfolding deskWeighs weighs
+  loaded-weighs reading =
+      rw (loaded-rest .1, loaded-use)
+      (zero-add (sum (rowCount table) (λ i. givenUp (rowOn after i) reading)) ∙ sum-ext (rowCount table) (λ i h. ap (λ (r : Row). givenUp r reading) (loaded-row i h)))

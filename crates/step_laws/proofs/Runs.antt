@@ -1,0 +1,206 @@
+-- Any run of calls after an accepted load. A desk that calls have made is the load, or an accepted decision or rewriting on a desk that calls have made;
+-- taking back its last step gives the desk before it again, and a refused call the desk itself. So each call leads from a made desk to a made desk,
+-- and what a made desk is known by (well formed, clean, weights as on the table, the load followed by its standing steps) holds after every run.
+use Prim.Native.Nat.{ℕ, _+_}
+use mathlib.Core.Path.{_≡_, refl, sym, ap, _∙_, subst₂}
+use mathlib.Core.Bool.{Bool, true, false, not}
+use mathlib.Core.List.{List, [], _∷_, _++_}
+use native.Mathlib.Omega.{arith}
+use lib.Dec.{leb, ltb}
+use lib.ListN.{length}
+use lib.IntN.{ℤ}
+use Rattle.rules.specs.declared.Refusal.{Refusal}
+use Rattle.rules.specs.declared.Refusal.the-variants.{BadDesk, TooManySteps, BadLiteral, BadNaming, BadFit, DeskFull, NothingStands}
+use Rattle.rules.specs.declared.Judged.{Judged}
+use Rattle.rules.specs.declared.Judged.the-variants.{Fine, Refused}
+use Rattle.rules.specs.Refusals.{refuse}
+use Rattle.rules.specs.Table.{weighs}
+use Rattle.rules.specs.Desk.{mostSteps, inUse, capacity, standing, wellFormed, loadWhy, loadStep, deskWeighs, keeps}
+use Rattle.rules.specs.Decide.{badLiteral, decideWhy, decideStep}
+use Rattle.rules.specs.Rewrite.{stored, given, wellNamed, wellFitted, rewriteWhy, rewriteStep}
+use Rattle.rules.specs.TakeBack.{takeBackWhy, takeBackStep}
+use Rattle.rules.specs.Calls.{Call, decide, rewrite, takeBack, callWhy, callStep, unlessRefused, afterCall, afterCalls}
+use Rattle.step_laws.specs.Clean.{Clean}
+use Rattle.step_laws.specs.Standing.{withoutLast, stands, standingFrom, standingCalls, NeverTen}
+use Rattle.step_laws.proofs.Steps.{load-formed, load-clean, load-weighs, load-rest, decide-undone, decide-formed, decide-clean, decide-weighs, decide-keeps, rewrite-undone, rewrite-formed, rewrite-clean, rewrite-weighs, rewrite-keeps}
+
+-- a desk that calls have made, with the steps that stand on it
+pub data Made (start : List ℕ) : List ℕ → List Call → Type 0 where
+  laid-out : Made start start []
+  deciding : {d : List ℕ} {calls : List Call} → Made start d calls → (l : ℤ) → decideWhy d l ≡ Fine → Made start (decideStep d l) (calls ++ (decide l ∷ []))
+  rewriting : {d : List ℕ} {calls : List Call} → Made start d calls → (kind : ℕ) (named : List ℕ) → rewriteWhy d kind named ≡ Fine
+      → Made start (rewriteStep d kind named) (calls ++ (rewrite kind named ∷ []))
+
+-- ---- calls in order
+
+pub after-fine : (d : List ℕ) (call : Call) → callWhy d call ≡ Fine → afterCall d call ≡ callStep d call
+unfolding afterCall
+after-fine d call e = rw e
+
+pub after-refused : (d : List ℕ) (call : Call) (r : Refusal) → callWhy d call ≡ Refused r → afterCall d call ≡ d
+unfolding afterCall
+after-refused d call r e = rw e
+
+pub calls-append : (d : List ℕ) (xs ys : List Call) → afterCalls d (xs ++ ys) ≡ afterCalls (afterCalls d xs) ys
+unfolding afterCalls
+calls-append d [] ys = refl
+calls-append d (x ∷ xs) ys = calls-append (afterCall d x) xs ys
+
+pub last-off : (calls : List Call) (x : Call) → withoutLast (calls ++ (x ∷ [])) ≡ calls
+last-off [] x = refl
+last-off (y ∷ []) x = refl
+last-off (y ∷ z ∷ l) x = ap (λ (k : List Call). y ∷ k) (last-off (z ∷ l) x)
+
+-- ---- what a made desk is known by
+
+pub record Known (start table d : List ℕ) (calls : List Call) : Type 0 where
+  pub formed : wellFormed d ≡ true
+  pub clean : Clean d
+  pub weights : (reading : ℕ) → keeps d reading ≡ true → deskWeighs d reading ≡ weighs table reading
+  pub replayed : d ≡ afterCalls start calls
+
+one-more : (start d : List ℕ) (calls : List Call) (call : Call) → d ≡ afterCalls start calls → callWhy d call ≡ Fine → callStep d call ≡ afterCalls start (calls ++ (call ∷ []))
+one-more start d calls call e fine =
+    sym (after-fine d call fine) ∙ ap (λ (x : List ℕ). afterCall x call) e ∙ sym (calls-append start calls (call ∷ []) ∙ (unfold afterCalls in refl))
+
+pub known : (start table : List ℕ) → Known start table start [] → {d : List ℕ} {calls : List Call} → Made start d calls → Known start table d calls
+known start table k laid-out = k
+known start table k (deciding {d} {calls} m l fine) =
+    let before = known start table k m in
+    record {
+      formed = decide-formed d l fine;
+      clean = decide-clean d l fine (before .clean);
+      weights = λ reading h. decide-weighs d l fine reading ∙ before .weights reading (decide-keeps d l fine reading h);
+      replayed = one-more start d calls (decide l) (before .replayed) fine;
+    }
+known start table k (rewriting {d} {calls} m kind named fine) =
+    let before = known start table k m in
+    record {
+      formed = rewrite-formed d kind named fine;
+      clean = rewrite-clean d kind named fine (before .clean);
+      weights = λ reading h.
+          let kept : keeps d reading ≡ true = sym (rewrite-keeps d kind named fine reading) ∙ h in
+          rewrite-weighs d kind named fine reading kept ∙ before .weights reading kept;
+      replayed = one-more start d calls (rewrite kind named) (before .replayed) fine;
+    }
+
+-- ---- on a well-formed desk, a decision or a rewriting is never refused with 10
+
+neither-ten : (b : Bool) (r : Refusal) (after : Judged) → (r ≡ BadDesk → ⊥) → (after ≡ Refused BadDesk → ⊥) → refuse b r after ≡ Refused BadDesk → ⊥
+neither-ten true r after h k e = h (cc)
+neither-ten false r after h k e = k e
+
+fine-not-ten : Fine ≡ Refused BadDesk → ⊥
+fine-not-ten e = let z : _≡_ {A = ℕ} 0 1 = cc in omega arith
+
+pub never-decide : (d : List ℕ) (l : ℤ) → wellFormed d ≡ true → decideWhy d l ≡ Refused BadDesk → ⊥
+unfolding decideWhy
+never-decide d l w e =
+    neither-ten (leb mostSteps (standing d)) TooManySteps (refuse (badLiteral d l) BadLiteral Fine) (λ q. let z : _≡_ {A = ℕ} 0 1 = cc in omega arith)
+    (neither-ten (badLiteral d l) BadLiteral Fine (λ q. let z : _≡_ {A = ℕ} 0 1 = cc in omega arith) fine-not-ten)
+    (rw w at e)
+
+pub never-rewrite : (d : List ℕ) (kind : ℕ) (named : List ℕ) → wellFormed d ≡ true → rewriteWhy d kind named ≡ Refused BadDesk → ⊥
+unfolding rewriteWhy
+never-rewrite d kind named w e =
+    let full : Bool = ltb (capacity d) (inUse d + length (stored (given d kind named))) in
+    let last : Judged = refuse full DeskFull Fine in
+    let fit : Judged = refuse (not (wellFitted d kind named)) BadFit last in
+    neither-ten (leb mostSteps (standing d)) TooManySteps (refuse (not (wellNamed d kind named)) BadNaming fit) (λ q. let z : _≡_ {A = ℕ} 0 1 = cc in omega arith)
+    (neither-ten (not (wellNamed d kind named)) BadNaming fit (λ q. let z : _≡_ {A = ℕ} 0 1 = cc in omega arith)
+    (neither-ten (not (wellFitted d kind named)) BadFit last (λ q. let z : _≡_ {A = ℕ} 0 1 = cc in omega arith)
+    (neither-ten full DeskFull Fine (λ q. let z : _≡_ {A = ℕ} 0 1 = cc in omega arith) fine-not-ten)))
+    (rw w at e)
+
+-- ---- each call, from a made desk to a made desk
+
+module _ (start table : List ℕ) (base : Known start table start []) (nothing : standing start ≡ 0) where
+  -- where no step stands there is nothing to take back
+  start-refuses : takeBackWhy start ≡ Refused NothingStands
+  unfolding takeBackWhy
+  start-refuses = rw (base .formed, nothing)
+
+  -- a step that stands can be taken back, and its desk is as before
+  pub taken-back : {d : List ℕ} {calls : List Call} → Made start d calls → takeBackWhy d ≡ Fine → Made start (takeBackStep d) (withoutLast calls)
+  taken-back laid-out e = let z : _≡_ {A = ℕ} 0 1 = cc (start-refuses) in absurd (omega arith)
+  taken-back (deciding {d} {calls} m l fine) e =
+      subst₂ (Made start) (sym (decide-undone d l fine (known start table base m .clean) .1)) (sym (last-off calls (decide l))) m
+  taken-back (rewriting {d} {calls} m kind named fine) e =
+      subst₂ (Made start) (sym (rewrite-undone d kind named fine (known start table base m .clean) .1)) (sym (last-off calls (rewrite kind named))) m
+
+  -- whatever a call's judgement is
+  judged : {d : List ℕ} {calls : List Call} → Made start d calls → (call : Call) (j : Judged) → callWhy d call ≡ j → Made start (unlessRefused j (callStep d call) d) (stands j call calls)
+  judged m (decide l) Fine e = deciding m l e
+  judged m (rewrite kind named) Fine e = rewriting m kind named e
+  judged m takeBack Fine e = taken-back m e
+  judged m (decide l) (Refused r) e = m
+  judged m (rewrite kind named) (Refused r) e = m
+  judged m takeBack (Refused r) e = m
+
+  pub called : {d : List ℕ} {calls : List Call} → Made start d calls → (call : Call) → Made start (afterCall d call) (stands (callWhy d call) call calls)
+  unfolding afterCall
+  called {d} m call = judged m call (callWhy d call) refl
+
+  -- ---- never a 10
+
+  never-back : {d : List ℕ} {calls : List Call} → Made start d calls → takeBackWhy d ≡ Refused BadDesk → ⊥
+  never-back laid-out e = let z : _≡_ {A = ℕ} 0 1 = cc (start-refuses) in omega arith
+  never-back (deciding {d} m l fine) e = let z : _≡_ {A = ℕ} 0 1 = cc (decide-undone d l fine (known start table base m .clean) .0) in omega arith
+  never-back (rewriting {d} m kind named fine) e = let z : _≡_ {A = ℕ} 0 1 = cc (rewrite-undone d kind named fine (known start table base m .clean) .0) in omega arith
+
+  pub never-ten : {d : List ℕ} {calls : List Call} → Made start d calls → (call : Call) → callWhy d call ≡ Refused BadDesk → ⊥
+  never-ten {d} m (decide l) e = never-decide d l (known start table base m .formed) e
+  never-ten {d} m (rewrite kind named) e = never-rewrite d kind named (known start table base m .formed) e
+  never-ten m takeBack e = never-back m e
+
+  -- ---- any run
+
+  pub run : (calls : List Call) {d : List ℕ} {before : List Call} → Made start d before → Made start (afterCalls d calls) (standingFrom d before calls)
+  unfolding afterCalls standingFrom
+  run [] m = m
+  run (call ∷ calls) m = run calls (called m call)
+
+  pub run-never : (calls : List Call) {d : List ℕ} {before : List Call} → Made start d before → NeverTen d calls
+  run-never [] m = tt
+  run-never (call ∷ calls) m = (never-ten m call, run-never calls (called m call))
+
+-- ---- demand 3, for every accepted load and every run of calls
+
+module _ (n : ℕ) (table : List ℕ) (c : ℕ) (d : List ℕ) (fine : loadWhy n table c d ≡ Fine) (calls : List Call) where
+  abbrev start : List ℕ
+  start = loadStep n table c d
+
+  base : Known start table start []
+  unfolding afterCalls
+  base =
+      record {
+        formed = load-formed n table c d fine;
+        clean = load-clean n table c d fine;
+        weights = λ reading h. load-weighs n table c d fine reading;
+        replayed = refl;
+      }
+
+  pub made : Made start (afterCalls start calls) (standingCalls start calls)
+  unfolding standingCalls
+  made = run start table base (load-rest n table c d fine .0) calls laid-out
+
+  result : Known start table (afterCalls start calls) (standingCalls start calls)
+  result = known start table base made
+
+  -- a reading that keeps the decisions weighs on the desk what it weighs on the table
+  pub run-weighs : (reading : ℕ) → keeps (afterCalls start calls) reading ≡ true → deskWeighs (afterCalls start calls) reading ≡ weighs table reading
+  run-weighs = result .weights
+
+  -- the desk is, word for word, the load followed by the steps that stand
+  pub run-replays : afterCalls start calls ≡ afterCalls start (standingCalls start calls)
+  run-replays = result .replayed
+
+  -- no call was refused with 10
+  pub run-never-ten : NeverTen start calls
+  run-never-ten = run-never start table base (load-rest n table c d fine .0) calls laid-out
+
+  pub run-formed : wellFormed (afterCalls start calls) ≡ true
+  run-formed = result .formed
+
+  pub run-clean : Clean (afterCalls start calls)
+  run-clean = result .clean

@@ -1,0 +1,90 @@
+-- The laws of single steps, by call: undone, kept well formed and clean, weights kept. Each only puts together what the files below prove.
+-- An accepted call says that its desk is well formed, so no law asks for it again.
+use Prim.Native.Nat.{ℕ, _*_}
+use mathlib.Core.Path.{_≡_, sym, _∙_}
+use mathlib.Core.Bool.{true}
+use mathlib.Core.List.{List}
+use native.Mathlib.Omega.{arith}
+use lib.IntN.{ℤ}
+use Rattle.rules.specs.declared.Judged.the-variants.{Fine}
+use Rattle.rules.specs.Table.{weighs}
+use Rattle.rules.specs.Desk.{standing, conceded, decided, truths, wellFormed, loadWhy, loadStep, deskWeighs, keeps}
+use Rattle.rules.specs.Decide.{decideWhy, decideStep}
+use Rattle.rules.specs.Rewrite.{given, stored, empties, lightest, rewriteWhy, rewriteStep}
+use Rattle.rules.specs.TakeBack.{takeBackWhy, takeBackStep}
+use Rattle.step_laws.specs.Clean.{Clean}
+use Rattle.step_laws.proofs.Formed.{well}
+use Rattle.step_laws.proofs.Verdicts.{decide-fine, rewrite-fine}
+use Rattle.step_laws.proofs.Weights.{missed, weighs-measured}
+use Rattle.step_laws.proofs.Rewritings.{step-rewritten, rewritten-head}
+use Rattle.step_laws.proofs.Decisions.{decision-undone, decision-fine, decided-formed, decided-clean, decided-measured, keeps-facts, kept-before}
+use Rattle.step_laws.proofs.Accepted.{plan, undone, back-fine, rewritten-formed, rewritten-clean, weights-kept}
+use Rattle.step_laws.proofs.Loads.{load-fine, loaded-formed, loaded-clean, loaded-weighs, loaded-rest}
+
+-- ---- load
+
+module _ (n : ℕ) (table : List ℕ) (c : ℕ) (d : List ℕ) (fine : loadWhy n table c d ≡ Fine) where
+  pub load-formed : wellFormed (loadStep n table c d) ≡ true
+  load-formed = well (loaded-formed n table c d (load-fine n table c d fine))
+
+  pub load-clean : Clean (loadStep n table c d)
+  load-clean = loaded-clean n table c d (load-fine n table c d fine)
+
+  pub load-weighs : (reading : ℕ) → deskWeighs (loadStep n table c d) reading ≡ weighs table reading
+  load-weighs = loaded-weighs n table c d (load-fine n table c d fine)
+
+  pub load-rest : (standing (loadStep n table c d) ≡ 0) × (conceded (loadStep n table c d) ≡ 0) × (decided (loadStep n table c d) ≡ 0) × (truths (loadStep n table c d) ≡ 0)
+  load-rest = loaded-rest n table c d (load-fine n table c d fine)
+
+-- ---- decide
+
+module _ (d : List ℕ) (l : ℤ) (fine : decideWhy d l ≡ Fine) where
+  pub decide-undone : Clean d → (takeBackWhy (decideStep d l) ≡ Fine) × (takeBackStep (decideStep d l) ≡ d)
+  decide-undone clean = (decision-fine d l (decide-fine d l fine), decision-undone d l (decide-fine d l fine) clean)
+
+  pub decide-formed : wellFormed (decideStep d l) ≡ true
+  decide-formed = well (decided-formed d l (decide-fine d l fine))
+
+  pub decide-clean : Clean d → Clean (decideStep d l)
+  decide-clean = decided-clean d l (decide-fine d l fine)
+
+  -- every reading weighs the same
+  pub decide-weighs : (reading : ℕ) → deskWeighs (decideStep d l) reading ≡ deskWeighs d reading
+  decide-weighs reading =
+      weighs-measured (decideStep d l) reading ∙ decided-measured d l (decide-fine d l fine) (missed reading) ∙ sym (weighs-measured d reading)
+
+  pub decide-keeps : (reading : ℕ) → keeps (decideStep d l) reading ≡ true → keeps d reading ≡ true
+  decide-keeps = kept-before d l (decide-fine d l fine)
+
+-- ---- merge, shift, chain, fork
+
+module _ (d : List ℕ) (kind : ℕ) (named : List ℕ) (fine : rewriteWhy d kind named ≡ Fine) where
+  pub rewrite-undone : Clean d → (takeBackWhy (rewriteStep d kind named) ≡ Fine) × (takeBackStep (rewriteStep d kind named) ≡ d)
+  rewrite-undone clean =
+      let ok = rewrite-fine d kind named fine in
+      rw (step-rewritten d kind named) (back-fine d kind named ok clean, undone d kind named ok clean)
+
+  pub rewrite-formed : wellFormed (rewriteStep d kind named) ≡ true
+  rewrite-formed = rw (step-rewritten d kind named) (well (rewritten-formed d kind named (rewrite-fine d kind named fine)))
+
+  pub rewrite-clean : Clean d → Clean (rewriteStep d kind named)
+  rewrite-clean clean = rw (step-rewritten d kind named) (rewritten-clean d kind named (rewrite-fine d kind named fine) clean)
+
+  -- every reading that keeps the decisions weighs the same
+  pub rewrite-weighs : (reading : ℕ) → keeps d reading ≡ true → deskWeighs (rewriteStep d kind named) reading ≡ deskWeighs d reading
+  rewrite-weighs reading k =
+      rw (step-rewritten d kind named)
+      (weighs-measured _ reading ∙ weights-kept d kind named (rewrite-fine d kind named fine) reading (keeps-facts d reading k .agrees) ∙ sym (weighs-measured d reading))
+
+  pub rewrite-keeps : (reading : ℕ) → keeps (rewriteStep d kind named) reading ≡ keeps d reading
+  unfolding keeps
+  rewrite-keeps reading =
+      let p = plan d kind named (rewrite-fine d kind named fine) in
+      let w : ℕ = lightest d named in
+      let head = rewritten-head d kind w named (stored (given d kind named)) (w * empties (given d kind named)) p in
+      rw (
+        step-rewritten d kind named,
+        head 0 (omega arith) (λ q. omega arith) (λ q. omega arith) (λ q. omega arith),
+        head 5 (omega arith) (λ q. omega arith) (λ q. omega arith) (λ q. omega arith),
+        head 6 (omega arith) (λ q. omega arith) (λ q. omega arith) (λ q. omega arith),
+      )

@@ -1,0 +1,136 @@
+-- Any accepted taking back leaves a well-formed clean desk well formed and clean, also one that no call has made.
+-- What the judge of the last entry found gives the bounds: named rows lie below the first new row, that is not below the rows loaded
+-- nor above the rows in use, and (d) was looked at afterwards.
+use Prim.Native.Nat.{ℕ, zero, suc, _+_, _-_, _*_, _≤_, _<_, _^_}
+use mathlib.Core.Path.{_≡_, refl, sym, ap, _∙_}
+use mathlib.Core.Logic.{_⊎_, inl, inr, ⊎-elim}
+use mathlib.Core.Bool.{Bool, true, false, cond, not, _&&_, _||_}
+use mathlib.Core.List.{List}
+use native.Mathlib.Nat.{le-trans}
+use native.Mathlib.Omega.{arith}
+use borrow.Author.Tests.{ltb-true, ltb-false, leb-true, eqb-true, eqb-false, not-true, not-false}
+use lib.Dec.{eqb, leb, ltb}
+use lib.ListN.{length, getD, set, length-set}
+use lib.Seq.{getD-set-same, getD-set-other}
+use Rattle.masks.specs.Masks.{has, without, single}
+use Rattle.masks.specs.Sums.{every}
+use Rattle.masks.specs.Words.{zeroed}
+use Rattle.masks.proofs.Choice.{cases, lt-or-le, clash, not-so, and-left, and-right, or-cases}
+use Rattle.masks.proofs.Bits.{has-without}
+use Rattle.masks.proofs.Sets.{within, within-of, without-lt}
+use Rattle.masks.proofs.Sums.{every-at}
+use Rattle.masks.proofs.Words.{zeroed-before, zeroed-out, zeroed-in, length-zeroed}
+use Rattle.literals.specs.declared.Lits.{Lits}
+use Rattle.rules.specs.declared.Row.{Row}
+use Rattle.rules.specs.declared.Refusal.the-variants.{BadDesk, NothingStands}
+use Rattle.rules.specs.declared.Judged.the-variants.{Fine}
+use Rattle.rules.specs.Refusals.{refuse}
+use Rattle.rules.specs.Table.{mostWeight}
+use Rattle.rules.specs.Desk.{headWords, variables, inUse, capacity, standing, conceded, decided, truths, loaded, entryWords, mostSteps, rowPlace, entryPlace, deskWords, rowOn, weightOn, weightFits, wellFormed}
+use Rattle.rules.specs.Rewrite.{fewest, fewerAdded, countFits, distinct, reweighed}
+use Rattle.rules.specs.TakeBack.{lastPlace, lastKind, lastVariable, lastWeight, lastCount, lastNamed, lastFirst, mergedEmpty, lastConceded, withdrawn, undoDecision, undoRewriting, takeBackStep, badDecision, badRewriting, badLast, takeBackWhy}
+use Rattle.step_laws.specs.Clean.{Clean}
+use Rattle.step_laws.proofs.Formed.{Sound, Formed, formed, well, place-mono}
+use Rattle.step_laws.proofs.Stores.{row-same, row-head, length-reweighed, reweighed-out, reweighed-lits}
+use Rattle.step_laws.proofs.Verdicts.{past, neither}
+use Rattle.step_laws.proofs.Entries.{entry-fits, entry-past, row-past-head, length-withdrawn, withdrawn-standing, withdrawn-in, withdrawn-out}
+use Rattle.step_laws.proofs.Weights.{measured, measured-same, weight-measured}
+use Rattle.step_laws.proofs.ByKind.{by-kind, counted}
+use Rattle.step_laws.proofs.Freed.{withdrawn-weight, withdrawn-formed, withdrawn-clean, unset, unset-out, unset-formed, unset-clean, emptied, emptied-use, emptied-head, emptied-formed, emptied-clean}
+
+-- an accepted taking back: the desk is well formed, a step stands, and the last entry is not bad
+pub record Taken (d : List ℕ) : Type 0 where
+  pub desk : Formed d
+  pub some : 1 ≤ standing d
+  pub entry : badLast d ≡ false
+
+pub take-back-fine : (d : List ℕ) → takeBackWhy d ≡ Fine → Taken d
+unfolding takeBackWhy
+take-back-fine d e =
+    let a = past (not (wellFormed d)) BadDesk (refuse (eqb (standing d) 0) NothingStands (refuse (badLast d) BadDesk Fine)) e in
+    let b = past (eqb (standing d) 0) NothingStands (refuse (badLast d) BadDesk Fine) (a .1) in
+    record {
+      desk = formed d (not-false (wellFormed d) (a .0));
+      some = omega (arith, eqb-false (standing d) 0 (b .0));
+      entry = past (badLast d) BadDesk Fine (b .1) .0;
+    }
+
+-- a rewriting's entry that is not bad
+pub record Entered (d : List ℕ) : Type 0 where
+  pub below : (i : ℕ) → i < lastCount d → lastNamed d i < lastFirst d
+  pub loads : loaded d ≤ lastFirst d
+  pub fits : lastFirst d ≤ inUse d
+  pub light : weightFits (undoRewriting d) ≡ true
+
+-- no kind adds more rows than it names
+never-more : (kind : ℕ) → 1 ≤ kind → kind ≤ 4 → fewerAdded kind ≤ fewest kind
+unfolding fewerAdded fewest
+never-more = by-kind (λ k. fewerAdded k ≤ fewest k) (omega arith) (omega arith) (omega arith) (omega arith)
+
+entry-fine : (d : List ℕ) → 1 ≤ lastKind d → lastKind d ≤ 4 → badRewriting d ≡ false → Entered d
+unfolding badRewriting mergedEmpty
+entry-fine d low high e =
+    let t1 : Bool = countFits (lastKind d) (lastCount d) in
+    let in-order : Bool = every (lastCount d) (λ i. ltb (lastNamed d i) (lastFirst d)) in
+    let once : Bool = distinct (lastCount d) (lastNamed d) in
+    let t3 : Bool = ltb (lastFirst d) (loaded d) in
+    let right : Bool = eqb (inUse d + fewerAdded (lastKind d)) (lastFirst d + lastCount d) in
+    let none-added : Bool = eqb (lastKind d) 1 && eqb (inUse d) (lastFirst d) in
+    let t5 : Bool = ltb (conceded d) (lastConceded d) in
+    let t6 : Bool = weightFits (undoRewriting d) in
+    let a = neither (not t1) (not (once && in-order) || (t3 || (not (right || none-added) || (t5 || not t6)))) e in
+    let b = neither (not (once && in-order)) (t3 || (not (right || none-added) || (t5 || not t6))) (a .1) in
+    let c = neither t3 (not (right || none-added) || (t5 || not t6)) (b .1) in
+    let g = neither (not (right || none-added)) (t5 || not t6) (c .1) in
+    let h = neither t5 (not t6) (g .1) in
+    let enough = counted (lastKind d) (lastCount d) (not-false t1 (a .0)) in
+    record {
+      below = λ i l. ltb-true (lastNamed d i) (lastFirst d) (every-at (lastCount d) (λ i. ltb (lastNamed d i) (lastFirst d)) (and-right once in-order (not-false (once && in-order) (b .0))) i l);
+      loads = ltb-false (lastFirst d) (loaded d) (c .0);
+      fits =
+      ⊎-elim
+      (λ q. omega (arith, eqb-true (inUse d + fewerAdded (lastKind d)) (lastFirst d + lastCount d) q, enough, never-more (lastKind d) low high))
+      (λ q. omega (arith, eqb-true (inUse d) (lastFirst d) (and-right (eqb (lastKind d) 1) (eqb (inUse d) (lastFirst d)) q)))
+      (or-cases right none-added (not-false (right || none-added) (g .0)));
+      light = not-false t6 (h .1);
+    }
+
+module _ (d : List ℕ) (clean : Clean d) (fine : takeBackWhy d ≡ Fine) where
+  abbrev Kept : List ℕ → Type 0
+  Kept e = (wellFormed e ≡ true) × Clean e
+
+  decision-kept : Taken d → Kept (undoDecision d)
+  unfolding undoDecision
+  decision-kept t =
+      let v : ℕ = single (lastVariable d - 1) in
+      let e : List ℕ = unset d (t .desk) v in
+      let some : 1 ≤ standing e = rw (unset-out d (t .desk) v 3 (λ q. omega arith) (λ q. omega arith)) (t .some) in
+      (well (withdrawn-formed e (unset-formed d (t .desk) v) some), withdrawn-clean e (unset-formed d (t .desk) v) some (unset-clean d (t .desk) v clean))
+
+  rewriting-kept : Taken d → Entered d → Kept (undoRewriting d)
+  unfolding undoRewriting weightFits
+  rewriting-kept t n =
+      let f = t .desk in
+      let w : ℕ = lastWeight d in
+      let c : ℕ = conceded d - lastConceded d in
+      let e : List ℕ = emptied d f w (lastNamed d) (lastCount d) (lastFirst d) c (n .loads) (n .fits) (n .below) in
+      let head : (p : ℕ) → p < headWords → (p ≡ 1 → ⊥) → (p ≡ 4 → ⊥) → getD e p 0 ≡ getD d p 0 = emptied-head d f w (lastNamed d) (lastCount d) (lastFirst d) c (n .loads) (n .fits) (n .below) in
+      let some : 1 ≤ standing e = rw (head 3 (omega arith) (λ q. omega arith) (λ q. omega arith)) (t .some) in
+      let cap : capacity e ≡ capacity d = head 2 (omega arith) (λ q. omega arith) (λ q. omega arith) in
+      let rows : inUse e ≡ lastFirst d = emptied-use d f w (lastNamed d) (lastCount d) (lastFirst d) c (n .loads) (n .fits) (n .below) in
+      let light : weightOn e ≤ mostWeight =
+      rw (withdrawn-weight e (omega (arith, f .fitting, n .fits))) at (leb-true (weightOn (undoRewriting d)) mostWeight (n .light)) in
+      let g : Formed e = emptied-formed d f w (lastNamed d) (lastCount d) (lastFirst d) c (n .loads) (n .fits) (n .below) light in
+      (well (withdrawn-formed e g some), withdrawn-clean e g some (emptied-clean d f w (lastNamed d) (lastCount d) (lastFirst d) c (n .loads) (n .fits) (n .below) clean))
+
+  pub take-back-kept : Kept (takeBackStep d)
+  unfolding takeBackStep badLast
+  take-back-kept =
+      let t = take-back-fine d fine in
+      let parts = neither (ltb 4 (lastKind d)) (cond (eqb (lastKind d) 0) (badDecision d) (badRewriting d)) (t .entry) in
+      ⊎-elim
+      (λ q. rw q (decision-kept t))
+      (λ q.
+      let some : 1 ≤ lastKind d = omega (arith, eqb-false (lastKind d) 0 q) in
+      rw q (rewriting-kept t (entry-fine d some (ltb-false 4 (lastKind d) (parts .0)) (rw q at (parts .1)))))
+      (cases (eqb (lastKind d) 0))
