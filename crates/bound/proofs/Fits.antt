@@ -17,7 +17,7 @@ use Rattle.rules.specs.declared.Part.{Part}
 use Rattle.rules.specs.Table.{mostWeight}
 use Rattle.rules.specs.Desk.{variables, inUse, conceded, rowOn, rowPlace, deskWords, wellFormed, weightOn, satisfied, remnant}
 use Rattle.rules.specs.Bound.{weightWhere, lostBeyond, unitWeight, foreseenAt, foreseen}
-use Rattle.walk_laws.proofs.Formed.{formed}
+use Rattle.step_laws.proofs.Formed.{formed}
 use Rattle.bound.specs.Units.{Readable, positiveUnit, negativeUnit}
 
 pub where-le : (test : Lits → Bool) (p : Part) (row : Row) → weightWhere test p row ≤ row .weight

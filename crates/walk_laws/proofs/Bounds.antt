@@ -1,27 +1,25 @@
 -- The bound of document 01 is at most what every reading that extends the decisions weighs, and is that weight where all is decided.
 -- Of each variable's two sums one is of rows that the reading misses, and the smaller is no more than that one. Summed by rows, not by
 -- variables, each row is counted once at most (`row-once`). Where all is decided no remnant is left, and nothing is foreseen.
-use Prim.Native.Nat.{ℕ, _+_, _^_, _≤_, _<_, min}
+use Prim.Native.Nat.{ℕ, _+_, _≤_, _<_, min}
 use mathlib.Core.Path.{_≡_, refl, sym, ap}
 use mathlib.Core.List.{List}
 use mathlib.Core.Bool.{Bool, true, false, cond, not, _&&_, _||_}
 use native.Mathlib.Nat.{min-le-left, min-le-right}
 use native.Mathlib.Omega.{arith}
-use borrow.Author.Tests.{not-true}
-use lib.Bits.{bitAnd}
-use Rattle.masks.specs.Masks.{has, none, below}
+use Rattle.masks.specs.Masks.{has}
 use Rattle.masks.specs.Sums.{sum}
-use Rattle.masks.proofs.Choice.{and-left, and-right}
-use Rattle.masks.proofs.Sums.{sum-zero, sum-ext, sum-add, sum-le, sum-swap, every-at}
-use Rattle.masks.proofs.Bits.{has-lt, below-lt}
+use Rattle.masks.proofs.Sums.{sum-zero, sum-ext, sum-add, sum-le, sum-swap}
+use Rattle.masks.proofs.Bits.{has-lt}
 use Rattle.masks.proofs.Sets.{within-of}
 use Rattle.literals.specs.declared.Lits.{Lits}
 use Rattle.literals.specs.Lits.{isEmpty, sameLits}
 use Rattle.literals.proofs.TwoMasks.{masks-empty}
 use Rattle.rules.specs.declared.Part.{Part}
-use Rattle.rules.specs.Table.{badLits, holds, givenUp}
-use Rattle.rules.specs.Desk.{variables, inUse, conceded, rowOn, rowsSound, satisfied, remnant, deskWeighs, weightOn}
+use Rattle.rules.specs.Table.{holds, givenUp}
+use Rattle.rules.specs.Desk.{variables, inUse, conceded, rowOn, satisfied, remnant, deskWeighs, weightOn}
 use Rattle.rules.specs.Bound.{weightWhere, lostBeyond, lost, unitWeight, foreseenAt, foreseen, bound}
+use Rattle.step_laws.proofs.Formed.{Sound}
 use Rattle.walk_laws.specs.Sound.{Extends}
 use Rattle.walk_laws.proofs.Remnants.{unit, missedAt, holds-split, holds-empty, empty-missed, row-once}
 
@@ -71,31 +69,16 @@ module _ (d : List ℕ) (p : Part) (reading : ℕ) (extends : Extends p reading)
 
 -- ---- where all is decided
 
--- (c), of one row
-row-within : (n : ℕ) (l : Lits) → badLits n l ≡ false → (l .positive < 2 ^ n) × (l .negative < 2 ^ n)
-unfolding badLits
-row-within n l e =
-    let h : (below (l .positive) n && below (l .negative) n) ≡ true = go (none (bitAnd (l .positive) (l .negative))) (below (l .positive) n && below (l .negative) n) e in (
-      below-lt (l .positive) n (and-left (below (l .positive) n) (below (l .negative) n) h),
-      below-lt (l .negative) n (and-right (below (l .positive) n) (below (l .negative) n) h),
-    )
-  where
-    go : (a b : Bool) → (not a || not b) ≡ false → b ≡ true
-    go a true e = refl
-    go true false e = sym e
-    go false false e = sym e
-
-module _ (d : List ℕ) (p : Part) (sound : rowsSound d ≡ true) (extends : Extends p (p .truths))
+module _ (d : List ℕ) (p : Part) (sound : (i : ℕ) → i < inUse d → Sound (variables d) (rowOn d i .lits)) (extends : Extends p (p .truths))
     (all : (v : ℕ) → v < variables d → has (p .decided) v ≡ true) where
   -- no row has a remnant
   pub no-remnant : (i : ℕ) → i < inUse d → isEmpty (remnant p (rowOn d i .lits)) ≡ true
-  unfolding rowsSound remnant
+  unfolding remnant
   no-remnant i l =
       let lits : Lits = rowOn d i .lits in
-      let h = row-within (variables d) lits (not-true (badLits (variables d) lits) (every-at (inUse d) (λ i. not (badLits (variables d) (rowOn d i .lits))) sound i l)) in
       masks-empty (remnant p lits)
-      (within-of (lits .positive) (p .decided) (λ v m. all v (has-lt (variables d) (h .0) m)))
-      (within-of (lits .negative) (p .decided) (λ v m. all v (has-lt (variables d) (h .1) m)))
+      (within-of (lits .positive) (p .decided) (λ v m. all v (has-lt (variables d) (sound i l .positives) m)))
+      (within-of (lits .negative) (p .decided) (λ v m. all v (has-lt (variables d) (sound i l .negatives) m)))
 
   pub lost-at-leaf : lost d p ≡ deskWeighs d (p .truths)
   unfolding lost lostBeyond deskWeighs weightWhere givenUp

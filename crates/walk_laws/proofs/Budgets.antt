@@ -20,7 +20,7 @@ use Rattle.walk_laws.proofs.Walks.{leaf-below}
 use Rattle.walk_laws.proofs.Counting.{counted, at-most, same-with-more}
 use Rattle.walk_laws.proofs.Fewer.{Within, fewer-nodes}
 use Rattle.walk_laws.proofs.Meeting.{never-worse, kept-with-more, member-of-sublist, met-leaves, walk-met-weights}
-use Rattle.walk_laws.proofs.Formed.{Formed, formed}
+use Rattle.step_laws.proofs.Formed.{Formed, formed}
 use Rattle.walk_laws.proofs.Done.{root, leaf-keeps, bound-sound, lost-sound}
 
 -- ---- stopped or not

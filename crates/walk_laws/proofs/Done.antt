@@ -25,7 +25,7 @@ use Rattle.walk_laws.specs.Right.{Right}
 use Rattle.walk_laws.proofs.Scans.{scan-least, least-of-all}
 use Rattle.walk_laws.proofs.Walks.{leaf-below, below-leaf, finished}
 use Rattle.walk_laws.proofs.Bounds.{lost-below, lost-at-leaf, bound-below, bound-at-leaf, weighs-most}
-use Rattle.walk_laws.proofs.Formed.{Formed, formed}
+use Rattle.step_laws.proofs.Formed.{Formed, formed}
 use Rattle.walk_laws.proofs.Nodes.{node-truths, node-full, node-itself, node-deeper, leaf-node, leaf-extends, leaf-of}
 use Rattle.walk_laws.proofs.Orders.{earlier-before, earlier-behind}
 

@@ -8,7 +8,6 @@ pub mod Remnants
 pub mod Bounds
 pub mod Undecided
 pub mod Nodes
-pub mod Formed
 pub mod Orders
 pub mod Done
 pub mod Budgets

@@ -2,20 +2,20 @@
 -- remnant is satisfied: each literal stands on a decided variable or is in the remnant. So an unsatisfied row with an empty remnant
 -- is missed, and so is one whose remnant is one literal that the reading makes false.
 -- Rows that are lost and rows of a unit are different, and so are rows of units on different variables: the remnant tells them apart.
-use Prim.Native.Nat.{ℕ, zero, suc, _+_, _^_, _≤_, _<_}
+use Prim.Native.Nat.{ℕ, _+_, _^_, _≤_, _<_}
 use mathlib.Core.Path.{_≡_, refl, sym, ap, _∙_}
 use mathlib.Core.Bool.{Bool, true, false, cond, not, _&&_, _||_}
 use mathlib.Core.Logic.{_⊎_, ⊎-elim}
-use native.Mathlib.Nat.{le-refl, le-step, eq-zero-or-pos, add-zero}
+use native.Mathlib.Nat.{eq-zero-or-pos, add-zero}
 use native.Mathlib.Omega.{arith}
 use lib.Bits.{bitAnd, bitOr, and-comm, and-zero-l}
 use lib.Pow.{pow-pos}
 use Rattle.masks.specs.Masks.{has, without, none, single}
 use Rattle.masks.specs.Sums.{sum}
-use Rattle.masks.proofs.Choice.{same-test, and-left, and-right, both, same3, cond-elim}
-use Rattle.masks.proofs.Sums.{downwards, sum-zero}
+use Rattle.masks.proofs.Choice.{same3, cond-elim}
+use Rattle.masks.proofs.Sums.{sum-zero, sum-one-of}
 use Rattle.masks.proofs.Bits.{has-ext, has-and, has-or, has-without}
-use Rattle.masks.proofs.Sets.{zero-without, or-empty, and-pow-apart, pow-within, single-pow, pow-inj, none-zero, zero-none}
+use Rattle.masks.proofs.Sets.{zero-without, and-pow-apart, pow-within, single-pow, pow-inj, none-zero, none-or}
 use Rattle.literals.specs.declared.Lits.{Lits}
 use Rattle.literals.specs.Lits.{isEmpty, sameLits}
 use Rattle.literals.proofs.TwoMasks.{same-eq, empty-masks}
@@ -27,12 +27,6 @@ use Rattle.rules.specs.Bound.{weightWhere}
 use Rattle.walk_laws.specs.Sound.{Extends}
 
 -- ---- satisfied already, or by the remnant
-
-pub none-or : (a b : ℕ) → none (bitOr a b) ≡ (none a && none b)
-none-or a b =
-    same-test
-    (λ t. let e = or-empty a b (zero-none (bitOr a b) t) in both (none-zero (e .0)) (none-zero (e .1)))
-    (λ t. none-zero (let p = zero-none a (and-left (none a) (none b) t) in let q = zero-none b (and-right (none a) (none b) t) in rw (p, q)))
 
 -- literals that are true, on decided variables and on the others
 positive-split : (a d r : ℕ) → bitAnd a r ≡ bitOr (bitAnd a (bitAnd r d)) (bitAnd (without a d) r)
@@ -160,19 +154,6 @@ one-unit p row u v s t hu hv a b =
     ∙ sym (same-eq (unit v t) (remnant p (row .lits)) (where-some (sameLits (unit v t)) p row b)))
 
 -- ---- so a row counts once at most
-
--- a sum of which one term at most is not 0
-pub sum-one-of : (n k : ℕ) {f : ℕ → ℕ} → ((i : ℕ) → i < n → f i ≤ k) → ((i j : ℕ) → i < n → j < n → 0 < f i → 0 < f j → i ≡ j) → sum n f ≤ k
-unfolding sum
-sum-one-of zero k h only = omega arith
-sum-one-of (suc n) k {f} h only =
-    ⊎-elim
-    (λ z. omega (arith, sum-one-of n k {f = f} (downwards h) (λ i j a b. only i j (le-step a) (le-step b))))
-    (λ s.
-    let rest : sum n f ≡ 0 =
-    sum-zero n (λ i l. ⊎-elim (λ z. z) (λ q. absurd (omega (arith, only i n (le-step l) (le-refl (suc n)) q s))) (eq-zero-or-pos (f i))) in
-    omega (arith, h n (le-refl (suc n))))
-    (eq-zero-or-pos (f n))
 
 -- what a row adds to lost, and to foreseen by the literals that a reading makes false
 module _ (n : ℕ) (fits : n ≤ 64) (p : Part) (row : Row) (reading : ℕ) (extends : Extends p reading) where
