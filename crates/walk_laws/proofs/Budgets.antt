@@ -25,15 +25,18 @@ use Rattle.walk_laws.proofs.Done.{root, leaf-keeps, bound-sound, lost-s
 
 -- ---- stopped or not
 
+start-within : (d : List ℕ) (budget : ℕ) → WithinBudget budget (atStart d)
+unfolding atStart
+start-within d budget = record { within = omega arith; atStop = λ e. absurd (clash e refl) }
+
+-- the count is never above the budget, and is the budget where the search is stopped
+pub search-counted : (b : Part → ℕ) (first : ℕ → Bool) (d : List ℕ) (budget : ℕ) → WithinBudget budget (walkOf b first d budget)
+unfolding walkOf
+search-counted b first d budget =
+    counted b first budget (undecided (variables d) (decided d)) (decisions d) (atStart d) (start-within d budget)
+
 module _ (b : Part → ℕ) (weight : ℕ → ℕ) (first : ℕ → Bool) (d : List ℕ) (budget : ℕ) (f : Formed d)
     (sound : Sound (Node (variables d)) b weight) where
-  -- the count is never above the budget, and is the budget where the search is stopped
-  pub search-counted : WithinBudget budget (walkOf b first d budget)
-  unfolding walkOf atStart
-  search-counted =
-      counted b first budget (undecided (variables d) (decided d)) (decisions d) (atStart d)
-      (record { within = omega arith; atStop = λ e. absurd (clash e refl) })
-
   -- what is kept is the best of the leaves met by that count
   pub search-met :
       chosen (walkOf b first d budget)
@@ -90,14 +93,12 @@ search-nodes b first d budget = omega (arith, at-most b first budget (undecided 
 -- a stopped search's weight never gets worse, and a reading is not lost
 pub search-never-worse : (b : Part → ℕ) (first : ℕ → Bool) (d : List ℕ) (budget more : ℕ) → budget ≤ more
     → walkOf b first d more .best ≤ walkOf b first d budget .best
-unfolding walkOf atStart
+unfolding walkOf
 search-never-worse b first d budget more h =
-    never-worse b first budget more h (undecided (variables d) (decided d)) (decisions d) (atStart d)
-    (record { within = omega arith; atStop = λ e. absurd (clash e refl) })
+    never-worse b first budget more h (undecided (variables d) (decided d)) (decisions d) (atStart d) (start-within d budget)
 
 pub search-stays-kept : (b : Part → ℕ) (first : ℕ → Bool) (d : List ℕ) (budget more : ℕ) → budget ≤ more → walkOf b first d budget .kept ≡ true
     → walkOf b first d more .kept ≡ true
-unfolding walkOf atStart
+unfolding walkOf
 search-stays-kept b first d budget more h =
-    kept-with-more b first budget more h (undecided (variables d) (decided d)) (decisions d) (atStart d)
-    (record { within = omega arith; atStop = λ e. absurd (clash e refl) })
+    kept-with-more b first budget more h (undecided (variables d) (decided d)) (decisions d) (atStart d) (start-within d budget)

@@ -18,11 +18,11 @@ use Rattle.rules.specs.declared.Walked.{Walked}
 use Rattle.rules.specs.Desk.{variables, decided, truths, wellFormed, weightOn, decisions, deskWeighs, keeps}
 use Rattle.rules.specs.Bound.{lost, bound}
 use Rattle.rules.specs.Walk.{undecided, atStart, walkOf}
-use Rattle.walk_laws.specs.Scan.{leaves, Chosen, chosen, Least}
+use Rattle.walk_laws.specs.Scan.{leaves, Chosen, chosen, scan, Least}
 use Rattle.walk_laws.specs.Sound.{Below, Sound, Node}
 use Rattle.walk_laws.specs.Order.{Before, Earlier}
-use Rattle.walk_laws.specs.Right.{Right}
-use Rattle.walk_laws.proofs.Scans.{scan-least, least-of-all}
+use Rattle.walk_laws.specs.Right.{Right, NoneBelow}
+use Rattle.walk_laws.proofs.Scans.{scan-outcome, least-of-all}
 use Rattle.walk_laws.proofs.Walks.{leaf-below, below-leaf, finished}
 use Rattle.walk_laws.proofs.Bounds.{lost-below, lost-at-leaf, bound-below, bound-at-leaf, weighs-most}
 use Rattle.step_laws.proofs.Formed.{Formed, formed}
@@ -72,7 +72,7 @@ module _ (d : List ℕ) (f : Formed d) where
 -- ---- a finished walk is right
 
 module _ (b : Part → ℕ) (weight : ℕ → ℕ) (first : ℕ → Bool) (d : List ℕ) (budget : ℕ) (f : Formed d)
-    (sound : Sound (Node (variables d)) b weight) (most : (reading : ℕ) → weight reading ≤ weightOn d) where
+    (sound : Sound (Node (variables d)) b weight) where
   abbrev lefts : List ℕ
   lefts = undecided (variables d) (decided d)
 
@@ -82,21 +82,10 @@ module _ (b : Part → ℕ) (weight : ℕ → ℕ) (first : ℕ → Bool) (d : L
   abbrev price : Part → ℕ
   price q = weight (q .truths)
 
-  -- the first of the least leaves is kept
-  keeps-least : walkOf b first d budget .stopped ≡ false → Least price all (weightOn d + 1) (chosen (walkOf b first d budget))
-  unfolding walkOf atStart chosen
-  keeps-least e =
-      let start : Chosen = chosen (atStart d) in
-      let some = leaf-of lefts (decisions d) (decisions d .truths) (root d f) (node-truths (root d f)) (node-itself (root d f)) in
-      subst (λ (c : Chosen). Least price all (weightOn d + 1) c)
-      (sym (finished b first budget sound lefts (decisions d) (atStart d) (root d f) e))
-      (scan-least price all start (some .0) (below-leaf first (some .1)) (omega (arith, most (some .0 .truths))))
-
-  pub finished-right : walkOf b first d budget .stopped ≡ false → Right weight first d (walkOf b first d budget)
+  -- the first of the least leaves is the foremost reading
+  least-right : (w : Walked) → Least price all (weightOn d + 1) (chosen w) → Right weight first d w
   unfolding chosen
-  finished-right e =
-      let w : Walked = walkOf b first d budget in
-      let l : Least price all (weightOn d + 1) (chosen w) = keeps-least e in
+  least-right w l =
       let leaf : Part = l .leaf in
       let reading : w .reading ≡ leaf .truths = ap (λ (c : Chosen). c .reading) (l .isKept) in
       let best : w .best ≡ weight (leaf .truths) = ap (λ (c : Chosen). c .best) (l .isKept) in
@@ -104,27 +93,56 @@ module _ (b : Part → ℕ) (weight : ℕ → ℕ) (first : ℕ → Bool) (d : L
       subst (λ (qs : List Part). List·Memᴰ leaf qs) (sym (l .stands)) (Memᴰ·append-right (l .front) (List·Memᴰ·head refl)) in
       record {
         kept = ap (λ (c : Chosen). c .kept) (l .isKept);
-        keepsAll = ap (keeps d) reading ∙ leaf-keeps d f leaf (leaf-below first lefts (decisions d) leaf member);
-        weighs = ap weight reading ∙ sym best;
-        least = λ r h.
-            let x = keeps-leaf d f r h in
-            omega (arith, least-of-all l (x .0) (below-leaf first (x .1)), ap weight (x .2));
-        firstOf = λ r h s.
-            let x = keeps-leaf d f r h in
-            let split : List·Memᴰ (x .0) (l .front ++ (leaf ∷ l .rest)) = subst (λ (qs : List Part). List·Memᴰ (x .0) qs) (l .stands) (below-leaf first (x .1)) in
-            ⊎-elim
-            (λ m. absurd (omega (arith, l .inFront (x .0) m, ap weight (x .2))))
-            (λ m.
-            ⊎-elim
-            (λ (q : x .0 ≡ leaf). inl (sym (x .2) ∙ ap (λ (p : Part). p .truths) q ∙ sym reading))
-            (λ k.
-            let order : Before first (leaf .truths) (x .0 .truths) =
-            earlier-before first lefts (decisions d) leaf (x .0) (root d f)
-            (subst (λ (qs : List Part). Earlier qs leaf (x .0)) (sym (l .stands)) (earlier-behind (l .front) k)) in
-            inr (rw (reading, sym (x .2)) order))
-            (List·Memᴰ·cases-cons m))
-            (List·Memᴰ·append-cases (l .front) split);
+        foremost = record {
+          keepsAll = ap (keeps d) reading ∙ leaf-keeps d f leaf (leaf-below first lefts (decisions d) leaf member);
+          weighs = ap weight reading ∙ sym best;
+          least = λ r h.
+              let x = keeps-leaf d f r h in
+              omega (arith, least-of-all l (x .0) (below-leaf first (x .1)), ap weight (x .2));
+          firstOf = λ r h s.
+              let x = keeps-leaf d f r h in
+              let split : List·Memᴰ (x .0) (l .front ++ (leaf ∷ l .rest)) = subst (λ (qs : List Part). List·Memᴰ (x .0) qs) (l .stands) (below-leaf first (x .1)) in
+              ⊎-elim
+              (λ m. absurd (omega (arith, l .inFront (x .0) m, ap weight (x .2))))
+              (λ m.
+              ⊎-elim
+              (λ (q : x .0 ≡ leaf). inl (sym (x .2) ∙ ap (λ (p : Part). p .truths) q ∙ sym reading))
+              (λ k.
+              let order : Before first (leaf .truths) (x .0 .truths) =
+              earlier-before first lefts (decisions d) leaf (x .0) (root d f)
+              (subst (λ (qs : List Part). Earlier qs leaf (x .0)) (sym (l .stands)) (earlier-behind (l .front) k)) in
+              inr (rw (reading, sym (x .2)) order))
+              (List·Memᴰ·cases-cons m))
+              (List·Memᴰ·append-cases (l .front) split);
+        };
       }
+
+  -- A finished walk kept the foremost reading, or none is below the best that it starts with.
+  pub finished-outcome : walkOf b first d budget .stopped ≡ false → NoneBelow weight d (walkOf b first d budget) ⊎ Right weight first d (walkOf b first d budget)
+  unfolding walkOf atStart chosen
+  finished-outcome e =
+      let start : Chosen = chosen (atStart d) in
+      let same : chosen (walkOf b first d budget) ≡ scan price all start = finished b first budget sound lefts (decisions d) (atStart d) (root d f) e in
+      ⊎-elim
+      (λ (n : (scan price all start ≡ start) × ((q : Part) → List·Memᴰ q all → weightOn d + 1 ≤ weight (q .truths))).
+      inl (record {
+        none = ap (λ (c : Chosen). c .kept) (same ∙ n .0);
+        above = λ r h. let x = keeps-leaf d f r h in omega (arith, n .1 (x .0) (below-leaf first (x .1)), ap weight (x .2));
+      }))
+      (λ (l : Least price all (weightOn d + 1) (scan price all start)).
+      inr (least-right (walkOf b first d budget) (subst (λ (c : Chosen). Least price all (weightOn d + 1) c) (sym same) l)))
+      (scan-outcome price all start)
+
+  -- where every reading is below it, and some reading always keeps the decisions: the decisions themselves, all else false
+  pub finished-right : ((reading : ℕ) → weight reading ≤ weightOn d) → walkOf b first d budget .stopped ≡ false → Right weight first d (walkOf b first d budget)
+  unfolding decisions
+  finished-right most e =
+      let some = leaf-of lefts (decisions d) (truths d) (root d f) (node-truths (root d f)) (node-itself (root d f)) in
+      ⊎-elim
+      (λ (n : NoneBelow weight d (walkOf b first d budget)).
+      absurd (omega (arith, n .above (some .0 .truths) (leaf-keeps d f (some .0) (some .1)), most (some .0 .truths))))
+      (λ r. r)
+      (finished-outcome e)
 
 -- Demand 2: for every well-formed desk and every budget, by the bound of document 01, true before false.
 pub search-right : (d : List ℕ) (budget : ℕ) → wellFormed d ≡ true → walkOf (bound d) (λ v. true) d budget .stopped ≡ false

@@ -11,3 +11,4 @@ pub mod Nodes
 pub mod Orders
 pub mod Done
 pub mod Budgets
+pub mod Answers
