@@ -5,11 +5,8 @@ ghost use Rattle.rules.specs.Rewrite.{fewerAdded, concedes, countFits};
 
 // Fewest and most rows named, rows named less rows added, and whether it concedes.
 const FEWEST: [u64; 5] = [0, 2, 2, 2, 4];
-
 const MOST: [u64; 5] = [0, 2, 2, 10, 12];
-
 const FEWER_ADDED: [u64; 5] = [0, 1, 0, 2, 2];
-
 const CONCEDES: [u64; 5] = [0, 0, 0, 1, 1];
 
 pub fn count_fits(kind: u64, n: u64) -> bool

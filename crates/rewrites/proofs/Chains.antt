@@ -28,3 +28,7 @@ module _ (f : ℕ → Lits) where
   pub compensating-more : (i : ℕ) → compensating f (i + 1) ≡ compensating f i ++ (together (lit f i) (negatedLits (lit f (i + 1))) ∷ [])
   unfolding compensating
   compensating-more i = rw (add-one i)
+
+  pub compensating-none : compensating f 0 ≡ []
+  unfolding compensating
+  compensating-none = refl

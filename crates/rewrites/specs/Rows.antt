@@ -1,15 +1,16 @@
 -- What the private functions here ask, and the two parts of a merge over two remnants.
 use Prim.Native.Nat.{ℕ, _+_, _-_, _*_, _≤_, _<_}
-use mathlib.Core.List.{List}
+use mathlib.Core.List.{List, [], _∷_, _++_}
+use mathlib.Core.Path.{_≡_}
 use mathlib.Core.Bool.{Bool, cond, _&&_}
 use lib.ListN.{length, getD}
 use lib.Dec.{eqb}
 use Rattle.masks.specs.Masks.{count}
 use Rattle.literals.specs.declared.Lits.{Lits}
-use Rattle.literals.specs.Lits.{sameLits, isEmpty}
+use Rattle.literals.specs.Lits.{sameLits, isEmpty, together, negatedLits}
 use Rattle.rules.specs.Table.{rowWords}
 use Rattle.rules.specs.Desk.{headWords}
-use Rattle.rules.specs.Rewrite.{clash, apartFrom, links, lit, remnantOf, fewest, most, fewerAdded}
+use Rattle.rules.specs.Rewrite.{clash, apartFrom, links, lit, remnantOf, fewest, most, fewerAdded, concedes, gives, empties, forked, compensating}
 use Rattle.rewrites.specs.declared.Link.{Link}
 
 -- the named rows lie within the lent words
@@ -39,3 +40,22 @@ unfoldable pub addedRows : List ℕ → ℕ → List ℕ → ℕ
 addedRows d kind named =
     let f = remnantOf d named in
     cond (eqb kind 1 && isEmpty (apartFrom (clash (f 0) (f 1)) (f 0))) 0 (length named - fewerAdded kind)
+
+-- the named rows lie within the lent words, before the row where new ones begin
+pub record Behind (d named : List ℕ) (first : ℕ) : Type 0 where
+  pub lies : OnDesk d named
+  pub before : (i : ℕ) → i < length named → getD named i 0 < first
+
+-- a rewriting that fits, with room for its new rows
+pub record Fitting (d : List ℕ) (kind : ℕ) (named : List ℕ) (first : ℕ) : Type 0 where
+  pub behind : Behind d named first
+  pub count : WellNamed kind (length named)
+  pub full : (kind ≡ 1 → ⊥) → empties (gives kind (length named) (remnantOf d named)) ≡ concedes kind
+  pub room : headWords + rowWords * (first + (length named - fewerAdded kind)) ≤ length d
+
+-- what a fork gives behind the empty clause
+unfoldable pub forkRows : ℕ → (ℕ → Lits) → List Lits
+forkRows k f =
+    let a = lit f k in
+    let bc = together (forked f k 1) (forked f k 2) in
+    compensating f k ++ (together a (negatedLits bc) ∷ together (negatedLits a) bc ∷ [])

@@ -19,11 +19,11 @@ use naming::all_below;
 use naming::count_fits;
 use naming::fewer_added;
 use naming::repeated;
+use rules::word;
 use rules::Desk;
 use rules::Judged;
 use rules::Part;
 use rules::Refusal;
-use rules::word;
 
 pub fn rewrite_why(desk: &[u64], kind: u64, named: &[u64]) -> Judged
     ensures { λ r. ⌜ r ≡ rewriteWhy (now (desk .entry)) kind (now (named .entry)) ⌝ }
@@ -82,10 +82,7 @@ fn all_open(desk: &[u64], named: &[u64]) -> bool
     requires { ⌜ OnDesk (now desk) (now named) ⌝ }
     ensures { λ r. ⌜ r ≡ every (length (now (named .entry))) (λ i. not (spent (rowOn (now (desk .entry)) (getD (now (named .entry)) i 0)) || satisfied (decisions (now (desk .entry))) (rowOn (now (desk .entry)) (getD (now (named .entry)) i 0) .lits))) ⌝ }
 {
-    let p = Part {
-        decided: desk[5],
-        truths: desk[6],
-    };
+    let p = Part { decided: desk[5], truths: desk[6] };
     let mut i = 0;
     while i < named.len() {
         let row = row_on(desk, named[i] as usize);

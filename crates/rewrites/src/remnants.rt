@@ -15,10 +15,7 @@ pub fn remnant_of(desk: &[u64], named: &[u64], i: usize) -> Lits
     requires { ⌜ i < length (now named) ⌝ }
     ensures { λ r. ⌜ r ≡ remnantOf (now (desk .entry)) (now (named .entry)) i ⌝ }
 {
-    let p = Part {
-        decided: desk[5],
-        truths: desk[6],
-    };
+    let p = Part { decided: desk[5], truths: desk[6] };
     let row = row_on(desk, named[i] as usize);
     p.remnant(row.lits)
 }

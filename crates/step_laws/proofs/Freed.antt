@@ -91,8 +91,8 @@ module _ (d : List ℕ) (f : Formed d) (some : 1 ≤ standing d) where
         fitting = rw (withdrawn-use d, withdrawn-capacity d) (f .fitting);
         steps = rw (withdrawn-standing d (omega (arith, long))) (omega (arith, f .steps));
         sound = λ i h.
-            let here : i < inUse d = rw (withdrawn-use d) at h in
-            rw (v, withdrawn-row d i (omega (arith, f .fitting))) (f .sound i here);
+        let here : i < inUse d = rw (withdrawn-use d) at h in
+        rw (v, withdrawn-row d i (omega (arith, f .fitting))) (f .sound i here);
         light = rw (withdrawn-weight d (f .fitting)) (f .light);
         nested = rw (t, m) (f .nested);
         within = rw (m, v) (f .within);
@@ -103,16 +103,16 @@ module _ (d : List ℕ) (f : Formed d) (some : 1 ≤ standing d) where
   withdrawn-clean clean =
       record {
         rows = λ p a b.
-            let here : rowPlace (inUse d) ≤ p = rw (withdrawn-use d) at a in
-            let there : p < rowPlace (capacity d) = rw (withdrawn-capacity d) at b in
-            withdrawn-out d p (λ q. omega arith) (inl (omega (arith, last-past d))) ∙ clean .rows p here there;
+        let here : rowPlace (inUse d) ≤ p = rw (withdrawn-use d) at a in
+        let there : p < rowPlace (capacity d) = rw (withdrawn-capacity d) at b in
+        withdrawn-out d p (λ q. omega arith) (inl (omega (arith, last-past d))) ∙ clean .rows p here there;
         entries = λ p a b.
-            let here : lastPlace d ≤ p = rw withdrawn-place at a in
-            let there : p < deskWords (capacity d) = rw (withdrawn-capacity d) at b in
-            ⊎-elim
-            (λ h. withdrawn-in d p (λ q. omega (arith, last-past d)) here h)
-            (λ h. withdrawn-out d p (λ q. omega (arith, last-past d)) (inr h) ∙ clean .entries p (rw (← last-next) h) there)
-            (lt-or-le p (lastPlace d + entryWords));
+        let here : lastPlace d ≤ p = rw withdrawn-place at a in
+        let there : p < deskWords (capacity d) = rw (withdrawn-capacity d) at b in
+        ⊎-elim
+        (λ h. withdrawn-in d p (λ q. omega (arith, last-past d)) here h)
+        (λ h. withdrawn-out d p (λ q. omega (arith, last-past d)) (inr h) ∙ clean .entries p (rw (← last-next) h) there)
+        (lt-or-le p (lastPlace d + entryWords));
       }
 
 -- ---- a decision cleared
@@ -174,13 +174,13 @@ module _ (d : List ℕ) (f : Formed d) (v : ℕ) where
       let s : standing unset ≡ standing d = unset-out 3 (λ q. omega arith) (λ q. omega arith) in
       record {
         rows = λ p a b.
-            let here : rowPlace (inUse d) ≤ p = rw u at a in
-            let there : p < rowPlace (capacity d) = rw c at b in
-            unset-out p (λ q. omega arith) (λ q. omega arith) ∙ clean .rows p here there;
+        let here : rowPlace (inUse d) ≤ p = rw u at a in
+        let there : p < rowPlace (capacity d) = rw c at b in
+        unset-out p (λ q. omega arith) (λ q. omega arith) ∙ clean .rows p here there;
         entries = λ p a b.
-            let here : rowPlace (capacity d) + entryWords * standing d ≤ p = rw (c, s) at a in
-            let there : p < deskWords (capacity d) = rw c at b in
-            unset-out p (λ q. omega arith) (λ q. omega arith) ∙ clean .entries p here there;
+        let here : rowPlace (capacity d) + entryWords * standing d ≤ p = rw (c, s) at a in
+        let there : p < deskWords (capacity d) = rw c at b in
+        unset-out p (λ q. omega arith) (λ q. omega arith) ∙ clean .entries p here there;
       }
 
 -- ---- a rewriting's rows freed and weights regained
@@ -252,8 +252,8 @@ module _ (d : List ℕ) (f : Formed d) (w : ℕ) (row : ℕ → ℕ) (k first c 
         fitting = rw (emptied-use, cap) (omega (arith, f .fitting));
         steps = rw s (f .steps);
         sound = λ i h.
-            let here : i < first = rw emptied-use at h in
-            rw (n, emptied-lits i here) (f .sound i (omega arith));
+        let here : i < first = rw emptied-use at h in
+        rw (n, emptied-lits i here) (f .sound i (omega arith));
         light = light;
         nested = rw (t, m) (f .nested);
         within = rw (m, n) (f .within);
@@ -266,11 +266,11 @@ module _ (d : List ℕ) (f : Formed d) (w : ℕ) (row : ℕ → ℕ) (k first c 
       let s : standing emptied ≡ standing d = emptied-head 3 (omega arith) (λ q. omega arith) (λ q. omega arith) in
       record {
         rows = λ p a b.
-            let here : rowPlace first ≤ p = rw emptied-use at a in
-            let there : p < rowPlace (capacity d) = rw cap at b in
-            ⊎-elim (emptied-freed p here) (λ h. emptied-past p h ∙ clean .rows p h there) (lt-or-le p (rowPlace (inUse d)));
+        let here : rowPlace first ≤ p = rw emptied-use at a in
+        let there : p < rowPlace (capacity d) = rw cap at b in
+        ⊎-elim (emptied-freed p here) (λ h. emptied-past p h ∙ clean .rows p h there) (lt-or-le p (rowPlace (inUse d)));
         entries = λ p a b.
-            let here : rowPlace (capacity d) + entryWords * standing d ≤ p = rw (cap, s) at a in
-            let there : p < deskWords (capacity d) = rw cap at b in
-            emptied-past p (le-trans (place-mono (f .fitting)) (omega arith)) ∙ clean .entries p here there;
+        let here : rowPlace (capacity d) + entryWords * standing d ≤ p = rw (cap, s) at a in
+        let there : p < deskWords (capacity d) = rw cap at b in
+        emptied-past p (le-trans (place-mono (f .fitting)) (omega arith)) ∙ clean .entries p here there;
       }

@@ -88,10 +88,10 @@ entry-fine d low high e =
       below = λ i l. ltb-true (lastNamed d i) (lastFirst d) (every-at (lastCount d) (λ i. ltb (lastNamed d i) (lastFirst d)) (and-right once in-order (not-false (once && in-order) (b .0))) i l);
       loads = ltb-false (lastFirst d) (loaded d) (c .0);
       fits =
-          ⊎-elim
-          (λ q. omega (arith, eqb-true (inUse d + fewerAdded (lastKind d)) (lastFirst d + lastCount d) q, enough, never-more (lastKind d) low high))
-          (λ q. omega (arith, eqb-true (inUse d) (lastFirst d) (and-right (eqb (lastKind d) 1) (eqb (inUse d) (lastFirst d)) q)))
-          (or-cases right none-added (not-false (right || none-added) (g .0)));
+      ⊎-elim
+      (λ q. omega (arith, eqb-true (inUse d + fewerAdded (lastKind d)) (lastFirst d + lastCount d) q, enough, never-more (lastKind d) low high))
+      (λ q. omega (arith, eqb-true (inUse d) (lastFirst d) (and-right (eqb (lastKind d) 1) (eqb (inUse d) (lastFirst d)) q)))
+      (or-cases right none-added (not-false (right || none-added) (g .0)));
       light = not-false t6 (h .1);
     }
 

@@ -78,11 +78,10 @@ loop-again c =
     let f = new (s .args .w) (s .args .regain) in
     let g = reweighed f (row (s .args .named .now)) (s .args .desk .now) (l .i) in
     let w : c .before .before .before .changed .result ≡ f (rowOn g k .weight) =
-    c .before .before .before .changed .ensures ∙ ap f (ap (λ (x : Row). x .weight) (r .row-on .ensures) ∙ ap (λ (x : List ℕ). rowOn x k .weight) (l .inv .1)) in (
-      omega arith,
-      e ∙ ap (λ (x : List ℕ). setWeight x k (c .before .before .before .changed .result)) (l .inv .1) ∙ ap (setWeight g k) w ∙ sym (reweighed-more f (row (s .args .named .now)) (s .args .desk .now) (l .i)),
-      ap length e ∙ length-set-weight _ _ _ ∙ l .inv .2,
-    )
+    c .before .before .before .changed .ensures ∙ ap f (ap (λ (x : Row). x .weight) (r .row-on .ensures) ∙ ap (λ (x : List ℕ). rowOn x k .weight) (l .inv .1)) in
+    (omega arith,
+    e ∙ ap (λ (x : List ℕ). setWeight x k (c .before .before .before .changed .result)) (l .inv .1) ∙ ap (setWeight g k) w ∙ sym (reweighed-more f (row (s .args .named .now)) (s .args .desk .now) (l .i)),
+    ap length e ∙ length-set-weight _ _ _ ∙ l .inv .2)
 
 same-length : tie.Need-same-length Inv-loop μ-loop
 same-length c = omega arith
