@@ -23,7 +23,14 @@ add-result c =
 add-result-2 : tie.Need-add-result-2
 add-result-2 c =
     let s = c .before .before .before .before in
-    omega (arith, lost-fits (s .args .desk .now) (s .pre) (s .args .p), foreseen-fits (s .args .desk .now) (s .pre) (s .args .p), c .before .before .word .ensures, c .before .lost-beyond .ensures, c .foreseen .ensures)
+    omega (
+      arith,
+      lost-fits (s .args .desk .now) (s .pre) (s .args .p),
+      foreseen-fits (s .args .desk .now) (s .pre) (s .args .p),
+      c .before .before .word .ensures,
+      c .before .lost-beyond .ensures,
+      c .foreseen .ensures,
+    )
 
 returns : tie.Need-returns
 unfolding bound lost

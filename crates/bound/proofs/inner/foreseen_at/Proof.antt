@@ -8,13 +8,11 @@ use Rattle.masks.specs.Sums.{sum}
 use Rattle.masks.proofs.Sums.{sum-empty, sum-more}
 use Rattle.literals.specs.declared.Lits.{Lits}
 use Rattle.literals.specs.Lits.{sameLits}
-use Rattle.rules.specs.declared.Row.{Row}
 use Rattle.rules.specs.declared.Part.{Part}
 use Rattle.rules.specs.Desk.{inUse, rowOn}
 use Rattle.rules.specs.Bound.{weightWhere, unitWeight, foreseenAt}
-use Rattle.bound.specs.declared.Units.{Units}
-use Rattle.bound.specs.Units.{positiveUnit, negativeUnit, unitsBy}
-use Rattle.bound.proofs.Fits.{rows-fit}
+use Rattle.bound.specs.Units.{positiveUnit, negativeUnit}
+use Rattle.bound.proofs.Fits.{rows-fit, units-turn}
 use Rattle.bound.proofs.inner.foreseen_at.Statement.{statement}
 use Rattle.bound.proofs.inner.foreseen_at.Tie as tie
 
@@ -41,34 +39,32 @@ row-on-requires c κs =
 units-by-requires : tie.Need-units-by-requires Inv-loop μ-loop
 units-by-requires c κs = c .before .before .before .before .before .pre .1
 
--- what the turn adds
-gave : (c : tie.After-units-by Inv-loop μ-loop)
-    → c .units-by .result ≡ unitsBy (c .before .before .before .before .before .before .args .p) (rowOn (c .before .before .before .before .before .before .args .desk .now) (c .before .before .before .loop .i)) (c .before .before .before .before .before .before .args .v)
-gave c =
-    let a = c .before .before .before .before .before .before .args in
-    c .units-by .ensures ∙ ap (λ (r : Row). unitsBy (a .p) r (a .v)) (c .before .row-on .ensures)
-
-gave-positive : (c : tie.After-units-by Inv-loop μ-loop)
-    → c .units-by .result .positive ≡ weightWhere (sameLits (positiveUnit (c .before .before .before .before .before .before .args .v))) (c .before .before .before .before .before .before .args .p) (rowOn (c .before .before .before .before .before .before .args .desk .now) (c .before .before .before .loop .i))
-gave-positive c = ap (λ (u : Units). u .positive) (gave c)
-
-gave-negative : (c : tie.After-units-by Inv-loop μ-loop)
-    → c .units-by .result .negative ≡ weightWhere (sameLits (negativeUnit (c .before .before .before .before .before .before .args .v))) (c .before .before .before .before .before .before .args .p) (rowOn (c .before .before .before .before .before .before .args .desk .now) (c .before .before .before .loop .i))
-gave-negative c = ap (λ (u : Units). u .negative) (gave c)
-
+-- what the turn adds, and that it fits
 add-positive : tie.Need-add-positive Inv-loop μ-loop
 add-positive c =
     let t = c .before in
     let s = t .before .before .before .before .before .before in
+    let a = s .args in
     let l = t .before .before .before .loop in
-    omega (arith, gave-positive t, rows-fit (s .args .desk .now) (s .pre .0) (s .args .p) (sameLits (positiveUnit (s .args .v))) (l .i) (omega (arith, t .before .before .before .before .word .ensures)))
+    let d = a .desk .now in
+    omega (
+      arith,
+      units-turn d (a .p) (l .i) (t .before .row-on .result) (t .before .row-on .ensures) (a .v) (t .units-by .result) (t .units-by .ensures) .0,
+      rows-fit d (s .pre .0) (a .p) (sameLits (positiveUnit (a .v))) (l .i) (omega (arith, t .before .before .before .before .word .ensures)),
+    )
 
 add-negative : tie.Need-add-negative Inv-loop μ-loop
 add-negative c =
     let t = c .before .before in
     let s = t .before .before .before .before .before .before in
+    let a = s .args in
     let l = t .before .before .before .loop in
-    omega (arith, gave-negative t, rows-fit (s .args .desk .now) (s .pre .0) (s .args .p) (sameLits (negativeUnit (s .args .v))) (l .i) (omega (arith, t .before .before .before .before .word .ensures)))
+    let d = a .desk .now in
+    omega (
+      arith,
+      units-turn d (a .p) (l .i) (t .before .row-on .result) (t .before .row-on .ensures) (a .v) (t .units-by .result) (t .units-by .ensures) .1,
+      rows-fit d (s .pre .0) (a .p) (sameLits (negativeUnit (a .v))) (l .i) (omega (arith, t .before .before .before .before .word .ensures)),
+    )
 
 add-i : tie.Need-add-i Inv-loop μ-loop
 add-i c = omega arith
@@ -80,10 +76,12 @@ loop-again : tie.Need-loop-again Inv-loop μ-loop
 loop-again c =
     let t = c .before .before in
     let a = t .before .before .before .before .before .before .args in
-    let l = t .before .before .before .loop in (
+    let l = t .before .before .before .loop in
+    let d = a .desk .now in
+    let g = units-turn d (a .p) (l .i) (t .before .row-on .result) (t .before .row-on .ensures) (a .v) (t .units-by .result) (t .units-by .ensures) in (
       omega arith,
-      omega (arith, gave-positive t, sum-more (l .i) (λ k. weightWhere (sameLits (positiveUnit (a .v))) (a .p) (rowOn (a .desk .now) k))),
-      omega (arith, gave-negative t, sum-more (l .i) (λ k. weightWhere (sameLits (negativeUnit (a .v))) (a .p) (rowOn (a .desk .now) k))),
+      omega (arith, g .0, sum-more (l .i) (λ k. weightWhere (sameLits (positiveUnit (a .v))) (a .p) (rowOn d k))),
+      omega (arith, g .1, sum-more (l .i) (λ k. weightWhere (sameLits (negativeUnit (a .v))) (a .p) (rowOn d k))),
     )
 
 -- the whole sums, from those of the rows passed
