@@ -1,18 +1,18 @@
 -- Identities of masks as sets: union `bitOr`, meet `bitAnd`, difference `without`; subsets and masks apart; one element put in or taken out.
 -- Each follows by `has-ext` from an identity of tests, which computing decides (`same2`, `same3`).
 -- `without a b ≡ 0` says that a is within b, and `bitAnd a b ≡ 0` that the two are apart.
-use Prim.Native.Nat.{ℕ, _+_, _^_, _≤_, _<_}
+use Prim.Native.Nat.{ℕ, _+_, _-_, _^_, _≤_, _<_}
 use mathlib.Core.Path.{_≡_, refl, sym, ap, _∙_}
 use mathlib.Core.Logic.{_↔_, ⊎-elim}
 use mathlib.Core.Bool.{Bool, true, false, not, _&&_, _||_, and-true, and-false, or-true, or-false}
-use native.Mathlib.Nat.{lt-of-le-of-lt}
+use native.Mathlib.Nat.{lt-of-le-of-lt, mod-eq-of-lt}
 use native.Mathlib.Omega.{arith}
-use lib.Bits.{bitAnd, bitOr, and-le-l, and-le-r, or-add-and, or-lt, and-comm, or-comm, xor-add-and}
+use lib.Bits.{bitAnd, bitOr, and-le-l, and-le-r, or-add-and, or-lt, and-comm, or-comm, and-mask, xor-add-and}
 use lib.Dec.{eqb, ltb}
 use lib.Pow.{pow-pos, pow-lt}
 use borrow.Author.Tests.{eqb-true, eqb-false, eq-eqb, lt-ltb, le-ltb, ltb-true, ne-eqb}
 use Rattle.masks.specs.Masks.{has, without, none, single}
-use Rattle.masks.proofs.Choice.{cases, not-so, so, clash, and-left, and-right, same-test, same1, same2, same3}
+use Rattle.masks.proofs.Choice.{cases, not-so, so, clash, and-left, and-right, both, same-test, same1, same2, same3}
 use Rattle.masks.proofs.Bits.{has-ext, empty, has-zero, has-and, has-or, has-without, has-pow, has-pow-same, has-pow-other}
 
 -- ---- identities
@@ -224,6 +224,28 @@ pub single-lt : (v : ℕ) → single v < 2 ^ 64
 unfolding single
 single-lt v = ⊎-elim (λ t. rw t (pow-lt (ltb-true v 64 t))) (λ t. rw t (pow-pos 64)) (cases (ltb v 64))
 
+-- ---- all below k, and what a mask lacks of them
+
+-- a mask of all places below k has each of them
+pub has-all : (k v : ℕ) → v < k → has (2 ^ k - 1) v ≡ true
+has-all k v l =
+    let whole : bitAnd (2 ^ v) (2 ^ k - 1) ≡ 2 ^ v = and-mask (2 ^ v) k ∙ mod-eq-of-lt (pow-lt l) in
+    sym (ap (λ (t : Bool). t && has (2 ^ k - 1) v) (has-pow-same v))
+    ∙ sym (has-and (2 ^ v) (2 ^ k - 1) v)
+    ∙ ap (λ (m : ℕ). has m v) whole
+    ∙ has-pow-same v
+
+pub complement : (k a : ℕ) → a < 2 ^ k → 2 ^ k - 1 - a ≡ without (2 ^ k - 1) a
+complement k a l =
+    let inside : bitAnd (2 ^ k - 1) a ≡ a = and-comm (2 ^ k - 1) a ∙ and-mask a k ∙ mod-eq-of-lt l in
+    omega (arith, without-add (2 ^ k - 1) a)
+
+pub has-complement : (k a v : ℕ) → a < 2 ^ k → v < k → has (2 ^ k - 1 - a) v ≡ not (has a v)
+has-complement k a v l h =
+    ap (λ (m : ℕ). has m v) (complement k a l)
+    ∙ has-without (2 ^ k - 1) a v
+    ∙ ap (λ (t : Bool). t && not (has a v)) (has-all k v h)
+
 -- ---- nothing
 
 pub none-zero : {m : ℕ} → m ≡ 0 → none m ≡ true
@@ -233,6 +255,12 @@ none-zero {m} e = eq-eqb m 0 e
 pub zero-none : (m : ℕ) → none m ≡ true → m ≡ 0
 unfolding none
 zero-none m e = eqb-true m 0 e
+
+pub none-or : (a b : ℕ) → none (bitOr a b) ≡ (none a && none b)
+none-or a b =
+    same-test
+    (λ t. let e = or-empty a b (zero-none (bitOr a b) t) in both (none-zero (e .0)) (none-zero (e .1)))
+    (λ t. none-zero (let p = zero-none a (and-left (none a) (none b) t) in let q = zero-none b (and-right (none a) (none b) t) in rw (p, q)))
 
 pub pos-none : (m : ℕ) → none m ≡ false → 0 < m
 unfolding none

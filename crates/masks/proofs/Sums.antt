@@ -5,7 +5,7 @@ use Prim.Native.Nat.{ℕ, zero, suc, _+_, _-_, _*_, _≤_, _<_, min}
 use mathlib.Core.Path.{_≡_, refl, sym, ap, ap₂, _∙_, subst}
 use mathlib.Core.Logic.{_↔_, ⊎-elim}
 use mathlib.Core.Bool.{Bool, true, false, _&&_, true≢false}
-use native.Mathlib.Nat.{le-refl, le-step, le-of-lt, le-of-suc-le-suc, eq-or-lt-of-le, not-suc-le-zero, add-zero, add-suc, add-sub-of-le, mul-zero, mul-add, min-le-right, min-eq-left, min-eq-right, le-min}
+use native.Mathlib.Nat.{le-refl, le-step, le-of-lt, le-of-suc-le-suc, eq-or-lt-of-le, eq-zero-or-pos, not-suc-le-zero, add-zero, add-suc, add-sub-of-le, mul-zero, mul-add, min-le-right, min-eq-left, min-eq-right, le-min}
 use native.Mathlib.Numerals.{add-one}
 use native.Mathlib.Omega.{arith}
 use lib.Arith.{le-zero}
@@ -113,6 +113,19 @@ sum-change (suc n) {f} {g} i l h =
 -- all terms but one are 0
 pub sum-only : (n : ℕ) {f : ℕ → ℕ} (i : ℕ) → i < n → ((j : ℕ) → j < n → (j ≡ i → ⊥) → f j ≡ 0) → sum n f ≡ f i
 sum-only n {f} i l h = omega (arith, sum-change n {f = f} {g = λ j. 0} i l h, sum-zero n {f = λ j. 0} (λ j m. refl))
+
+-- a sum of which one term at most is not 0
+pub sum-one-of : (n k : ℕ) {f : ℕ → ℕ} → ((i : ℕ) → i < n → f i ≤ k) → ((i j : ℕ) → i < n → j < n → 0 < f i → 0 < f j → i ≡ j) → sum n f ≤ k
+unfolding sum
+sum-one-of zero k h only = omega arith
+sum-one-of (suc n) k {f} h only =
+    ⊎-elim
+    (λ z. omega (arith, sum-one-of n k {f = f} (downwards h) (λ i j a b. only i j (le-step a) (le-step b))))
+    (λ s.
+    let rest : sum n f ≡ 0 =
+    sum-zero n (λ i l. ⊎-elim (λ z. z) (λ q. absurd (omega (arith, only i n (le-step l) (le-refl (suc n)) q s))) (eq-zero-or-pos (f i))) in
+    omega (arith, h n (le-refl (suc n))))
+    (eq-zero-or-pos (f n))
 
 -- at most everywhere, and less at one index
 pub sum-lt : (n : ℕ) {f g : ℕ → ℕ} (i : ℕ) → i < n → ((j : ℕ) → j < n → f j ≤ g j) → f i < g i → sum n f < sum n g

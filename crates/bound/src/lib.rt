@@ -1,0 +1,27 @@
+// The bound of a desk: lost, and what is foreseen by the units of each undecided variable.
+ghost use mathlib.Core.Path.{_≡_};
+ghost use Rattle.rules.specs.Bound.{bounded};
+use desk::well_formed;
+use rules::Bounded;
+use rules::Refusal;
+
+pub mod inner;
+mod rests;
+
+// The weights of a variable's units, positive and negative.
+pub struct Units {
+    pub positive: u64,
+    pub negative: u64,
+}
+
+// The bound of a desk under its own decisions, or the refusal.
+pub fn bound(desk: &[u64]) -> Bounded
+    ensures { λ r. ⌜ r ≡ bounded (now (desk .entry)) ⌝ }
+{
+    if well_formed(desk) {
+        let p = inner::decisions(desk);
+        Bounded::Bound(inner::bound_at(desk, p))
+    } else {
+        Bounded::Refused(Refusal::BadDesk)
+    }
+}

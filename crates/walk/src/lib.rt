@@ -1,0 +1,24 @@
+// The search: a walk over the undecided variables, true before false, that keeps the best reading met within a budget of nodes.
+ghost use mathlib.Core.Path.{_≡_};
+ghost use Rattle.rules.specs.Walk.{searched};
+use bound::inner::decisions;
+use desk::well_formed;
+use rules::Refusal;
+use rules::Searched;
+
+mod depth;
+mod states;
+
+// The search of a desk, or the refusal. The desk is only read.
+pub fn search(desk: &[u64], budget: u32) -> Searched
+    ensures { λ r. ⌜ r ≡ searched (now (desk .entry)) budget ⌝ }
+{
+    if well_formed(desk) {
+        let start = states::at_start(desk);
+        let p = decisions(desk);
+        let end = depth::walk(desk, budget as u64, p, start);
+        Searched::Found(states::found_by(end))
+    } else {
+        Searched::Refused(Refusal::BadDesk)
+    }
+}

@@ -1,0 +1,14 @@
+pub mod Scans
+pub mod Branches
+pub mod Walks
+pub mod Counting
+pub mod Meeting
+pub mod Fewer
+pub mod Remnants
+pub mod Bounds
+pub mod Undecided
+pub mod Nodes
+pub mod Orders
+pub mod Done
+pub mod Budgets
+pub mod Answers

@@ -1,0 +1,4 @@
+pub mod Scan
+pub mod Sound
+pub mod Order
+pub mod Right

@@ -1,0 +1,58 @@
+-- What a walk is measured by: all leaves below a node, in the walk's order, a scan of leaves, which looks at each and cuts none, and the
+-- leaves that a walk meets within its budget. All are over any bound, any weight and any value tried first.
+use Prim.Native.Nat.{ℕ, _≤_, _<_}
+use mathlib.Core.Path.{_≡_}
+use mathlib.Core.List.{List, [], _∷_, _++_, List·Memᴰ}
+use mathlib.Core.Bool.{Bool, true, cond, not}
+use lib.Dec.{leb, ltb}
+use Rattle.rules.specs.declared.Part.{Part}
+use Rattle.rules.specs.declared.Walked.{Walked}
+use Rattle.rules.specs.Walk.{fixed, visited, walk}
+
+-- all full readings below a node whose variables left are vs: the value tried first, then the other
+unfoldable pub leaves : (ℕ → Bool) → List ℕ → Part → List Part
+leaves first [] p = p ∷ []
+leaves first (v ∷ vs) p = leaves first vs (fixed p v (first v)) ++ leaves first vs (fixed p v (not (first v)))
+
+-- the best weight so far, whether a reading is kept, and which
+pub record Chosen : Type 0 where
+  pub best : ℕ
+  pub kept : Bool
+  pub reading : ℕ
+
+unfoldable pub chosen : Walked → Chosen
+chosen s = record { best = s .best; kept = s .kept; reading = s .reading }
+
+-- A leaf takes the place of what is kept only where it weighs strictly less.
+unfoldable pub take : ℕ → ℕ → Chosen → Chosen
+take weight reading c = cond (leb (c .best) weight) c (record { best = weight; kept = true; reading = reading })
+
+unfoldable pub scan : (Part → ℕ) → List Part → Chosen → Chosen
+scan weight [] c = c
+scan weight (q ∷ qs) c = scan weight qs (take (weight q) (q .truths) c)
+
+-- Of a list of leaves, one is kept: it weighs less than a best, less than each leaf in front of it and no more than each behind it.
+pub record Least (weight : Part → ℕ) (qs : List Part) (best : ℕ) (c : Chosen) : Type 0 where
+  pub front : List Part
+  pub leaf : Part
+  pub rest : List Part
+  pub stands : qs ≡ front ++ (leaf ∷ rest)
+  pub isKept : c ≡ record { best = weight leaf; kept = true; reading = leaf .truths }
+  pub less : weight leaf < best
+  pub inFront : (q : Part) → List·Memᴰ q front → weight leaf < weight q
+  pub behind : (q : Part) → List·Memᴰ q rest → weight leaf ≤ weight q
+
+-- the leaves that the walk visits and does not cut before its budget is used up, in order
+unfoldable pub met : (Part → ℕ) → (ℕ → Bool) → ℕ → List ℕ → Part → Walked → List Part
+met bound first budget [] p s = cond (ltb (s .nodes) budget) (cond (leb (s .best) (bound p)) [] (p ∷ [])) []
+met bound first budget (v ∷ vs) p s =
+    let other = walk bound first budget vs (fixed p v (first v)) (visited s) in
+    let one = met bound first budget vs (fixed p v (first v)) (visited s) in
+    let two = met bound first budget vs (fixed p v (not (first v))) other in
+    let both = one ++ two in
+    cond (ltb (s .nodes) budget) (cond (leb (s .best) (bound p)) [] both) []
+
+-- The count is at most the budget, and is the budget where the walk is stopped.
+pub record WithinBudget (budget : ℕ) (s : Walked) : Type 0 where
+  pub within : s .nodes ≤ budget
+  pub atStop : s .stopped ≡ true → s .nodes ≡ budget
