@@ -18,6 +18,7 @@ use Rattle.rules.specs.declared.Row.{Row}
 use Rattle.rules.specs.Table.{rowOf}
 use Rattle.rules.specs.Text.{bytes, numberText, line, behind, litsText, rowText, rowsText}
 use Rattle.text_laws.proofs.Numbers.{digits-length}
+use Rattle.text_laws.proofs.Branches.{weightKey, litsKey}
 use Rattle.text.specs.Stored.{parting, literalText}
 
 pub number-length : (n : ℕ) → length (numberText n) ≤ 10
@@ -96,16 +97,16 @@ lits-length (suc n) l =
 pub line-length : (key : List ℕ) (n : ℕ) → length (key ++ (numberText n ++ (10 ∷ []))) ≤ length key + 11
 line-length key n = rw (length-append key (numberText n ++ (10 ∷ [])), length-append (numberText n) (10 ∷ [])) (omega (arith, number-length n))
 
-pub row-is : (row : Row) → rowText row ≡ ((119 ∷ 101 ∷ 105 ∷ 103 ∷ 104 ∷ 116 ∷ 61 ∷ []) ++ (numberText (row .weight) ++ (10 ∷ []))) ++ ((108 ∷ 105 ∷ 116 ∷ 115 ∷ 61 ∷ []) ++ (litsText 64 (row .lits) ++ (10 ∷ [])))
+pub row-is : (row : Row) → rowText row ≡ (weightKey ++ (numberText (row .weight) ++ (10 ∷ []))) ++ (litsKey ++ (litsText 64 (row .lits) ++ (10 ∷ [])))
 unfolding rowText line bytes
 row-is row = refl
 
 pub row-length : (row : Row) → length (rowText row) ≤ 792
 row-length row =
-    let w = (119 ∷ 101 ∷ 105 ∷ 103 ∷ 104 ∷ 116 ∷ 61 ∷ []) ++ (numberText (row .weight) ++ (10 ∷ [])) in
+    let w = weightKey ++ (numberText (row .weight) ++ (10 ∷ [])) in
     let l = litsText 64 (row .lits) ++ (10 ∷ []) in
-    rw (row-is row, length-append w ((108 ∷ 105 ∷ 116 ∷ 115 ∷ 61 ∷ []) ++ l), length-append (litsText 64 (row .lits)) (10 ∷ []))
-    (omega (arith, line-length (119 ∷ 101 ∷ 105 ∷ 103 ∷ 104 ∷ 116 ∷ 61 ∷ []) (row .weight), lits-length 64 (row .lits)))
+    rw (row-is row, length-append w (litsKey ++ l), length-append (litsText 64 (row .lits)) (10 ∷ []))
+    (omega (arith, line-length weightKey (row .weight), lits-length 64 (row .lits)))
 
 pub rows-none : (table : List ℕ) → rowsText table 0 ≡ []
 unfolding rowsText

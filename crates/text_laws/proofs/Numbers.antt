@@ -3,7 +3,7 @@
 use Prim.Native.Nat.{ℕ, zero, suc, _+_, _-_, _*_, _/_, _%_, _^_, _<_, _≤_}
 use mathlib.Core.Path.{_≡_, refl, sym, ap, _∙_}
 use mathlib.Core.Logic.{_⊎_, inl, inr, ⊎-elim}
-use mathlib.Core.Bool.{Bool, true, false, cond, not, _&&_, _||_}
+use mathlib.Core.Bool.{Bool, true, false, cond, not, _&&_, _||_, or-true}
 use mathlib.Core.List.{List, [], _∷_, _++_}
 use native.Mathlib.Nat.{pow-suc, pow-le-pow-right, add-zero, zero-add, not-suc-le-zero}
 use native.Mathlib.Numerals.{add-one}
@@ -241,14 +241,10 @@ digits-spelt s at (suc k) (suc n) l c h =
 
 -- ---- the token's two laws
 
-or-right : (b : Bool) → (b || true) ≡ true
-or-right true = refl
-or-right false = refl
-
 no-zero : (s : List ℕ) (at v n : ℕ) → (v < 10 → n ≡ 1) → (0 < v → 48 < getD s at 0) → (eqb n 1 || not (eqb (getD s at 0) 48)) ≡ true
 no-zero s at v n one lead =
     ⊎-elim (λ x. rw (eq-eqb n 1 (one x)))
-    (λ x. rw (ne-eqb (getD s at 0) 48 (λ z. omega (arith, lead (omega arith)))) (or-right (eqb n 1)))
+    (λ x. rw (ne-eqb (getD s at 0) 48 (λ z. omega (arith, lead (omega arith)))) (or-true (eqb n 1)))
     (lt-or-le v 10)
 
 pub number-reads : (s : List ℕ) (at v : ℕ) → v < 10_000_000_000 → stands s at (numberText v) ≡ true
@@ -325,3 +321,17 @@ digits-two zero n h l = absurd (h refl)
 digits-two (suc k) n h l =
     let p : suc k - 1 ≡ k = omega arith in
     rw p (digits-large k n l)
+
+-- a number that stands there begins with a digit
+pub number-digit : (s : List ℕ) (at v : ℕ) → v < 10_000_000_000 → stands s at (numberText v) ≡ true → isDigit (getD s at 0) ≡ true
+unfolding numberText
+number-digit s at v l e =
+    let w = digits-written s at 10 v l (omega arith) e in
+    rw (add-zero at) at (w .all 0 (w .some))
+
+pub digits-some : (k n : ℕ) → 0 < length (digits (suc k) n)
+digits-some k n =
+    ⊎-elim
+    (λ l. rw (digits-small k n l) (omega arith))
+    (λ l. rw (digits-large k n l, length-append (digits k (n / 10)) ((48 + n % 10) ∷ [])) (omega arith))
+    (lt-or-le n 10)

@@ -10,7 +10,6 @@ use borrow.Author.Tests.{ltb-false, lt-ltb, le-ltb}
 use lib.Dec.{ltb}
 use lib.ListN.{length, getD, drop, length-append}
 use lib.Seq.{sets, sets-eq}
-use Rattle.masks.proofs.Choice.{cases}
 use Rattle.rules.specs.declared.Row.{Row}
 use Rattle.rules.specs.declared.RowRead.{RowRead}
 use Rattle.rules.specs.declared.HeadRead.{HeadRead}
@@ -19,8 +18,8 @@ use Rattle.rules.specs.declared.Refusal.{Refusal}
 use Rattle.rules.specs.declared.Refusal.the-variants.{TooManyVariables, BadTable, NoRoom, BadBudget, BadText}
 use Rattle.rules.specs.declared.Judged.{Judged}
 use Rattle.rules.specs.declared.Judged.the-variants.{Fine, Refused}
-use Rattle.rules.specs.Refusals.{refuse}
 use Rattle.rules.specs.Reader.{rowAt, RowsRead, rows, brokenAt, onRow, rowWordsOf, inFront, rowsAt, headAt, restWhy, headWhy, readWhy, wordsOf, readWords, readStep, readTable, textRead}
+use Rattle.text_laws.proofs.Admissible.{passed}
 
 -- ---- the head's figures, in order
 
@@ -48,11 +47,6 @@ pub record HeadFine (s : List ℕ) (room n b m next : ℕ) : Type 0 where
   pub few : m ≤ 512
   pub fits : 3 * m ≤ room
   pub rest : restWhy s m (rowsAt m s next 4) ≡ Fine
-
--- a judgement that is fine is past its first test
-passed : (t : Bool) (r : Refusal) (after : Judged) → refuse t r after ≡ Fine → (t ≡ false) × (after ≡ Fine)
-passed true r after e = absurd (let z : _≡_ {A = ℕ} 0 1 = cc in omega arith)
-passed false r after e = (refl, e)
 
 pub head-fine : (s : List ℕ) (room n b m next : ℕ) → headWhy s room (HeadRead.Lines n b m next) ≡ Fine → HeadFine s room n b m next
 head-fine s room n b m next e =
