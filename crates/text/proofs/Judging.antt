@@ -1,24 +1,21 @@
 -- A table judged row by row: the first row that is refused refuses the table, and a sum once over the limit stays over it. And what the
 -- writer answers and leaves in each case.
-use Prim.Native.Nat.{ℕ, zero, suc, _+_, _-_, _%_, _<_, _≤_}
+use Prim.Native.Nat.{ℕ, zero, suc, _+_, _-_, _<_, _≤_}
 use mathlib.Core.Path.{_≡_, refl, sym, ap, _∙_}
-use mathlib.Core.Logic.{_⊎_, inl, inr, ⊎-elim}
-use mathlib.Core.Bool.{Bool, true, false, not, _||_}
+use mathlib.Core.Bool.{true, false}
 use mathlib.Core.List.{List}
 use native.Mathlib.Nat.{zero-add}
 use native.Mathlib.Numerals.{add-one}
 use native.Mathlib.Omega.{arith}
-use borrow.Author.Tests.{lt-ltb, le-ltb, ltb-false}
-use lib.Dec.{ltb, eqb}
+use borrow.Author.Tests.{lt-ltb, le-ltb}
+use lib.Dec.{ltb}
 use lib.ListN.{length}
 use lib.Seq.{sets, sets-eq}
 use Rattle.masks.specs.Sums.{sum}
-use Rattle.masks.proofs.Choice.{lt-or-le}
-use Rattle.masks.proofs.Sums.{sum-mono, sum-more, sum-empty}
+use Rattle.masks.proofs.Sums.{sum-mono, sum-more}
 use Rattle.rules.specs.declared.Written.{Written}
 use Rattle.rules.specs.declared.Refusal.{Refusal}
 use Rattle.rules.specs.declared.Refusal.the-variants.{TooManyVariables, BadTable, NoRoom, SumTooLarge}
-use Rattle.rules.specs.declared.Judged.{Judged}
 use Rattle.rules.specs.declared.Judged.the-variants.{Fine, Refused}
 use Rattle.rules.specs.Refusals.{refuse, inOrder}
 use Rattle.rules.specs.Table.{rowCount, rowOf, rowWhy, rowsWhy, badTable, sumTooLarge, tableWhy}
@@ -61,14 +58,6 @@ module _ (variables : ℕ) (table : List ℕ) where
       → tableWhy variables table ≡ refuse (sumTooLarge table) SumTooLarge Fine
   unfolding tableWhy
   all-rows h e f = rw (le-ltb 64 variables h, e, f)
-
-pub few-rows : (table : List ℕ) → badTable table ≡ false → rowCount table ≤ 512
-unfolding badTable
-few-rows table e = ltb-false 512 (rowCount table) (right (not (eqb (length table % 3) 0)) (ltb 512 (rowCount table)) e)
-  where
-    right : (a b : Bool) → (a || b) ≡ false → b ≡ false
-    right true b e = absurd (let z : _≡_ {A = ℕ} 0 1 = cc in omega arith)
-    right false b e = e
 
 pub sum-over : (f : ℕ → ℕ) (i m limit : ℕ) → i < m → limit < sum i f + f i → ltb limit (sum m f) ≡ true
 sum-over f i m limit l h = lt-ltb limit (sum m f) (omega (arith, sum-more i f, sum-mono (i + 1) m f (omega arith)))

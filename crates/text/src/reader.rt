@@ -99,7 +99,7 @@ fn rest_why(s: &[u8], from: usize, rows: u64) -> Judged
     ensures { λ r. ⌜ r ≡ restWhy (now (s .entry)) rows (rowsAt rows (now (s .entry)) from 4) ⌝ }
 {
     let mut at = from;
-    let mut i = 0;
+    let mut i: u64 = 0;
     let mut line = 4;
     while i < rows {
         match row_at(s, at, line) {

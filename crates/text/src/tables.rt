@@ -1,28 +1,41 @@
 // A table judged: 1, 2, rows in order with 5 before 6, then 7.
 ghost use mathlib.Core.Path.{_≡_};
-ghost use Prim.Native.Nat.{_≤_};
+ghost use Prim.Native.Nat.{_+_, _*_};
+ghost use lib.ListN.{getD};
 ghost use Rattle.masks.specs.Sums.{sum};
 ghost use lib.Dec.{ltb};
-ghost use Rattle.rules.specs.Table.{rowCount, rowOf, rowsWhy, mostRows, mostWeight, tableWhy};
+ghost use Rattle.rules.specs.Table.{rowWords, rowOf, rowsWhy, mostWeight, tableWhy};
 use literals::Literal;
 use rules::Judged;
 use rules::Refusal;
 use rules::Row;
 
-// Row i. Words past the end read as 0.
+// Word k of row i, or 0 past the end.
+fn word_of(table: &[u64], i: usize, k: usize) -> u64
+    ensures { λ r. ⌜ r ≡ getD (now (table .entry)) (rowWords * i + k) 0 ⌝ }
+{
+    if i <= table.len() / Row::WORDS {
+        let at = Row::WORDS * i;
+        if k < table.len() - at {
+            table[at + k]
+        } else {
+            0
+        }
+    } else {
+        0
+    }
+}
+
 pub fn row_of(table: &[u64], i: usize) -> Row
-    requires { ⌜ i ≤ mostRows ⌝ }
     ensures { λ r. ⌜ r ≡ rowOf (now (table .entry)) i ⌝ }
 {
-    let at = Row::WORDS * i;
-    let positive = rules::word(table, at);
-    let negative = rules::word(table, at + 1);
-    let weight = rules::word(table, at + 2);
+    let positive = word_of(table, i, 0);
+    let negative = word_of(table, i, 1);
+    let weight = word_of(table, i, 2);
     Row::new(positive, negative, weight)
 }
 
 fn rows_why(variables: u64, table: &[u64], m: usize) -> Judged
-    requires { ⌜ m ≤ mostRows ⌝ }
     ensures { λ r. ⌜ r ≡ rowsWhy variables (now (table .entry)) m ⌝ }
 {
     let mut i = 0;
@@ -41,7 +54,6 @@ fn rows_why(variables: u64, table: &[u64], m: usize) -> Judged
 
 // Stops at the first row that brings the sum over the limit, so that no sum wraps.
 fn sum_too_large(table: &[u64], m: usize) -> bool
-    requires { ⌜ m ≤ mostRows ⌝ }
     ensures { λ r. ⌜ r ≡ ltb mostWeight (sum m (λ i. rowOf (now (table .entry)) i .weight)) ⌝ }
 {
     let mut total = 0;

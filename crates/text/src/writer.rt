@@ -28,7 +28,7 @@ fn put_row(out: &mut [u8], at: usize, row: Row) -> usize
 
 // The first m rows.
 fn put_rows(out: &mut [u8], at: usize, table: &[u64], m: usize) -> usize
-    requires { ⌜ (at + 792 * m ≤ 2 ^ 32) × (m ≤ mostRows) ⌝ }
+    requires { ⌜ at + 792 * m ≤ 2 ^ 32 ⌝ }
     ensures { λ r. ⌜ Stored (now (out .entry)) at (rowsText (now (table .entry)) m) r (now (out .exit)) ⌝ }
 {
     let mut next = at;

@@ -19,7 +19,7 @@ loop-holds : tie.Need-loop-holds Inv-loop μ-loop
 loop-holds c = (omega arith, no-rows (c .before .args .variables) (c .before .args .table .now))
 
 row-of-requires : tie.Need-row-of-requires Inv-loop μ-loop
-row-of-requires c κs = omega arith
+row-of-requires c κs = search needs
 
 why-requires : tie.Need-why-requires Inv-loop μ-loop
 why-requires c κs = search needs

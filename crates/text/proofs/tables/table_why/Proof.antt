@@ -1,10 +1,7 @@
 -- `table_why` meets its contract: each return has the tests that led there.
 use mathlib.Core.Path.{_≡_, refl, sym, ap, _∙_}
-use Prim.Native.Nat.{_≤_}
-use borrow.Author.Tests.{ltb-false}
-use lib.ListN.{length}
 use Rattle.rules.specs.Table.{badTable, rowCount, sumTooLarge}
-use Rattle.text.proofs.Judging.{over-variables, bad-table, bad-row, all-rows, few-rows}
+use Rattle.text.proofs.Judging.{over-variables, bad-table, bad-row, all-rows}
 use borrow.Author.Needs.{needs}
 use Rattle.text.proofs.tables.table_why.Statement.{statement}
 use Rattle.text.proofs.tables.table_why.Tie as tie
@@ -17,8 +14,7 @@ unfolding badTable rowCount
 returns-2 c = sym (bad-table (c .before .before .before .args .variables) (c .before .before .before .args .table .now) (c .before .if1 .left) (c .if2 .taken))
 
 rows-why-requires : tie.Need-rows-why-requires
-unfolding badTable rowCount
-rows-why-requires c κs = few-rows (c .before .before .before .args .table .now) (c .if2 .left)
+rows-why-requires c κs = search needs
 
 enum-known-why : tie.Need-enum-known-why
 enum-known-why c = search needs
@@ -27,8 +23,7 @@ enum-told : tie.Need-enum-told
 enum-told c = search needs
 
 sum-too-large-requires : tie.Need-sum-too-large-requires
-unfolding badTable rowCount
-sum-too-large-requires c κs = few-rows (c .before .before .before .before .before .before .args .table .now) (c .before .before .before .if2 .left)
+sum-too-large-requires c κs = search needs
 
 returns-3 : tie.Need-returns-3
 unfolding badTable rowCount

@@ -1,4 +1,5 @@
 -- `put_rows` meets its contract: the rows passed stand there.
+use borrow.Author.Needs.{needs}
 use mathlib.Core.Path.{_≡_, refl, sym, ap, _∙_}
 use Prim.Native.Nat.{ℕ, _+_, _-_, _≤_}
 use lib.ListN.{length}
@@ -21,7 +22,7 @@ loop-holds : tie.Need-loop-holds Inv-loop μ-loop
 loop-holds c = (omega arith, rw rows-none (stored-none (c .before .before .args .out .now) (c .before .before .args .at)))
 
 row-of-requires : tie.Need-row-of-requires Inv-loop μ-loop
-row-of-requires c κs = omega arith
+row-of-requires c κs = search needs
 
 put-row-requires : tie.Need-put-row-requires Inv-loop μ-loop
 put-row-requires c κs = omega (arith, c .before .before .before .loop .inv .1 .0, rows-length (c .before .before .before .before .before .before .args .table .now) (c .before .before .before .loop .i))

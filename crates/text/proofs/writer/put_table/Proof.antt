@@ -35,7 +35,7 @@ unfolding rowCount
 put-rows-requires c κs =
     let a = c .before .before .before .before .before .before .before .before .before .before .before .before .before .before .before .before .before .before .args in
     let few = c .before .before .before .before .before .before .before .before .before .before .before .before .before .before .before .before .before .before .pre in
-    (omega (arith, few, c .before .before .before .put-number-line3 .ensures .0, c .before .before .before .before .before .before .before .before .put-number-line2 .ensures .0, c .before .before .before .before .before .before .before .before .before .before .before .before .before .put-number-line .ensures .0, line-length varsKey (a .variables), line-length budgetKey (a .budget), line-length rowsKey (rowCount (a .table .now))), few)
+    omega (arith, few, c .before .before .before .put-number-line3 .ensures .0, c .before .before .before .before .before .before .before .before .put-number-line2 .ensures .0, c .before .before .before .before .before .before .before .before .before .before .before .before .before .put-number-line .ensures .0, line-length varsKey (a .variables), line-length budgetKey (a .budget), line-length rowsKey (rowCount (a .table .now)))
 
 same-length : tie.Need-same-length
 same-length c = search needs
