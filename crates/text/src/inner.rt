@@ -34,7 +34,7 @@ pub fn put_key(out: &mut [u8], at: usize, key: &[u8]) -> usize
 }
 
 // A number's digits, at most `most`.
-pub fn put_digits(out: &mut [u8], at: usize, most: usize, n: u64) -> usize
+fn put_digits(out: &mut [u8], at: usize, most: usize, n: u64) -> usize
     requires { ⌜ at + most ≤ 2 ^ 32 ⌝ }
     ensures { λ r. ⌜ Stored (now (out .entry)) at (digits most n) r (now (out .exit)) ⌝ }
 {

@@ -1,6 +1,6 @@
 // The reader: the first three lines, then the rows, judged whole before the first word is stored.
 ghost use mathlib.Core.Path.{_≡_};
-ghost use Prim.Native.Nat.{_+_, _-_, _*_, _≤_};
+ghost use Prim.Native.Nat.{_+_, _-_, _*_, _^_, _≤_, _<_};
 ghost use lib.ListN.{length, getD};
 ghost use lib.Seq.{sets};
 ghost use Rattle.rules.specs.Table.{rowWords, mostRows};
@@ -75,7 +75,7 @@ fn head_at(s: &[u8]) -> HeadRead
 
 // A row's two lines, of which the first has this number.
 fn row_at(s: &[u8], at: usize, line: u64) -> RowRead
-    requires { ⌜ line ≤ 65536 ⌝ }
+    requires { ⌜ line < 2 ^ 32 ⌝ }
     ensures { λ r. ⌜ r ≡ rowAt (now (s .entry)) at line ⌝ }
 {
     let Parsed::Number {
@@ -99,7 +99,7 @@ fn rest_why(s: &[u8], from: usize, rows: u64) -> Judged
     ensures { λ r. ⌜ r ≡ restWhy (now (s .entry)) rows (rowsAt rows (now (s .entry)) from 4) ⌝ }
 {
     let mut at = from;
-    let mut i: u64 = 0;
+    let mut i = 0;
     let mut line = 4;
     while i < rows {
         match row_at(s, at, line) {
@@ -170,7 +170,8 @@ fn store_rows(s: &[u8], from: usize, rows: usize, table: &mut [u64])
 
 // What the text says beside its rows, with the rows' words at the front of the table; or why it is refused, with the table as found.
 pub fn read(s: &[u8], table: &mut [u64]) -> TextRead
-    ensures { λ r. ⌜ (r ≡ textRead (now (s .entry)) (length (now (table .entry)))) × (now (table .exit) ≡ readTable (now (s .entry)) (now (table .entry))) ⌝ }
+    ensures answer { λ r. ⌜ r ≡ textRead (now (s .entry)) (length (now (table .entry))) ⌝ }
+    ensures words { λ _. ⌜ now (table .exit) ≡ readTable (now (s .entry)) (now (table .entry)) ⌝ }
 {
     match head_at(s) {
         HeadRead::Broken(line) => TextRead::Refused(Refusal::BadText(line)),

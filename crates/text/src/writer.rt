@@ -55,7 +55,8 @@ fn put_table(out: &mut [u8], variables: u64, budget: u64, table: &[u64]) -> usiz
 
 // How many bytes the text has, which then stand at the front of those lent; or why none was written.
 pub fn write(variables: u64, budget: u32, table: &[u64], out: &mut [u8]) -> Written
-    ensures { λ r. ⌜ (r ≡ written variables budget (now (table .entry)) (now (out .entry))) × (now (out .exit) ≡ writeOut variables budget (now (table .entry)) (now (out .entry))) ⌝ }
+    ensures answer { λ r. ⌜ r ≡ written variables budget (now (table .entry)) (now (out .entry)) ⌝ }
+    ensures bytes { λ _. ⌜ now (out .exit) ≡ writeOut variables budget (now (table .entry)) (now (out .entry)) ⌝ }
 {
     match tables::table_why(variables, table) {
         Judged::Refused(why) => Written::Refused(why),

@@ -1,4 +1,5 @@
--- What an admissible table is: each test of its judgement was passed, and each row's too.
+-- What an admissible table is: a judgement is fine only where each of its tests was passed, in order; and the rows' judgement only where
+-- each row's is.
 use Prim.Native.Nat.{ℕ, zero, suc, _+_, _*_, _/_, _%_, _<_, _≤_}
 use mathlib.Core.Path.{_≡_, refl, sym, ap, _∙_}
 use mathlib.Core.Logic.{_⊎_, inl, inr, ⊎-elim}

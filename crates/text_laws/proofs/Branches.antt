@@ -1,4 +1,5 @@
--- What a definition of the reader comes to in each of its cases, over plain variables: a law for each way that reading can go.
+-- What a definition of the reader comes to in each of its cases, over plain variables: a law for each way that reading can go. The code's
+-- returns and the tokens' laws both cite these, and look into no definition themselves.
 use Prim.Native.Nat.{ℕ, zero, suc, _+_, _-_, _*_, _<_, _≤_}
 use mathlib.Core.Path.{_≡_, refl, sym, ap, _∙_}
 use mathlib.Core.Logic.{_⊎_, inl, inr, ⊎-elim}

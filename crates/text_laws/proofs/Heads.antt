@@ -1,4 +1,5 @@
--- The first three lines: written, they are read as their numbers; read, they stand there as they are written.
+-- The first three lines: written, they are read as their numbers; read, they stand there as they are written. Each begins where the one
+-- before it ends, and what follows them begins where the third ends.
 use Prim.Native.Nat.{ℕ, _+_, _<_}
 use mathlib.Core.Path.{_≡_, refl, sym, ap, _∙_}
 use mathlib.Core.Bool.{true}

@@ -1,4 +1,5 @@
--- A whole text read: what the head's figures must be for the rest to be judged, what is stored, and what is answered.
+-- A whole text read: what the head's figures must be for the rest to be judged, what is stored, and what is answered. Where all is fine there
+-- is room for the words, so that storing them one by one is putting them in front of the rest.
 use Prim.Native.Nat.{ℕ, zero, suc, _+_, _-_, _*_, _<_, _≤_}
 use mathlib.Core.Path.{_≡_, refl, sym, ap, _∙_}
 use mathlib.Core.Logic.{_⊎_, inl, inr, ⊎-elim}

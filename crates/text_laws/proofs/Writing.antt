@@ -1,4 +1,5 @@
--- What is written: a run of stores byte by byte, and how long each piece can be.
+-- A key stored byte by byte: what is left of it, stored behind what is, comes to the whole key stored. Where nothing is left, nothing
+-- more is stored.
 use Prim.Native.Nat.{ℕ, zero, suc, _+_, _-_, _*_, _/_, _%_, _<_, _≤_}
 use mathlib.Core.Path.{_≡_, refl, sym, ap, _∙_}
 use mathlib.Core.List.{List, [], _∷_, _++_}
