@@ -1,6 +1,5 @@
 -- Document 01, "The text": what is read. A place is an index into the bytes; past their end a byte reads as 0, which the form never holds.
 use Prim.Native.Nat.{ℕ, zero, suc, _+_, _-_, _*_}
-use Prim.Native.String.{String}
 use mathlib.Core.List.{List, [], _∷_, _++_}
 use mathlib.Core.Bool.{Bool, true, false, cond, not, _&&_, _||_}
 use lib.ListN.{length, getD, drop}
@@ -21,6 +20,7 @@ use Rattle.rules.specs.declared.Refusal.the-variants.{TooManyVariables, 
 use Rattle.rules.specs.declared.Judged.{Judged}
 use Rattle.rules.specs.declared.Judged.the-variants.{Fine, Refused}
 use Rattle.rules.specs.Refusals.{refuse}
+use Rattle.rules.specs.Calls.{unlessRefused}
 use Rattle.rules.specs.Table.{rowWords, mostRows}
 use Rattle.rules.specs.Walk.{mostBudget}
 use Rattle.rules.specs.Text.{bytes, lineFeed, space, minus, digitZero, mostDigits}
@@ -57,8 +57,8 @@ ended s (Parsed.Number value next) = cond (eqb (getD s next 0) lineFeed) (Parsed
 ended s Parsed.Broken = Parsed.Broken
 
 -- a line of a key and a number
-unfoldable pub numberLine : List ℕ → ℕ → String → Parsed
-numberLine s at key = cond (stands s at (bytes key)) (ended s (numberAt s (at + length (bytes key)))) Parsed.Broken
+unfoldable pub numberLine : List ℕ → ℕ → List ℕ → Parsed
+numberLine s at key = cond (stands s at key) (ended s (numberAt s (at + length key))) Parsed.Broken
 
 -- "variables strictly rising from 1 to 64, minus before a negative one": a literal on a variable above the last
 abbrev pub literalOf : Bool → ℕ → Parsed → Signed
@@ -104,7 +104,7 @@ rowBy w line Listed.Broken = RowRead.Broken line
 
 -- a row's two lines, of which the first has this number
 unfoldable pub rowAt : List ℕ → ℕ → ℕ → RowRead
-rowAt s at line = onNumber (numberLine s at "weight=") (RowRead.Broken line) (λ w next. rowBy w (line + 1) (litsLine s next))
+rowAt s at line = onNumber (numberLine s at (bytes "weight=")) (RowRead.Broken line) (λ w next. rowBy w (line + 1) (litsLine s next))
 
 -- What the rows of a text come to: their words and the place behind them, or the first line that breaks the form.
 pub data RowsRead : Type 0 where
@@ -129,9 +129,9 @@ rowsAt (suc m) s at line = onRow (rowAt s at line) (λ row next. inFront (rowWor
 -- the first three lines
 unfoldable pub headAt : List ℕ → HeadRead
 headAt s =
-    onNumber (numberLine s 0 "vars=") (HeadRead.Broken 1) (λ variables next.
-    onNumber (numberLine s next "budget=") (HeadRead.Broken 2) (λ budget next.
-    onNumber (numberLine s next "rows=") (HeadRead.Broken 3) (λ m next. HeadRead.Lines variables budget m next)))
+    onNumber (numberLine s 0 (bytes "vars=")) (HeadRead.Broken 1) (λ variables next.
+    onNumber (numberLine s next (bytes "budget=")) (HeadRead.Broken 2) (λ budget next.
+    onNumber (numberLine s next (bytes "rows=")) (HeadRead.Broken 3) (λ m next. HeadRead.Lines variables budget m next)))
 
 -- "the rest": the rows from line 4 on; "Nothing follows the last row."
 abbrev pub restWhy : List ℕ → ℕ → RowsRead → Judged
@@ -176,3 +176,9 @@ textReadAs (Refused r) head = TextRead.Refused r
 -- variables, budget and rows, or the refusal
 unfoldable pub textRead : List ℕ → ℕ → TextRead
 textRead s room = textReadAs (readWhy s room) (headAt s)
+
+-- the lent words afterwards
+unfoldable pub readTable : List ℕ → List ℕ → List ℕ
+readTable s table =
+    let step = readStep s table in
+    unlessRefused (readWhy s (length table)) step table

@@ -16,6 +16,7 @@ use Rattle.rules.specs.declared.Refusal.the-variants.{NoRoom}
 use Rattle.rules.specs.declared.Judged.{Judged}
 use Rattle.rules.specs.declared.Judged.the-variants.{Fine, Refused}
 use Rattle.rules.specs.Refusals.{refuse, inOrder}
+use Rattle.rules.specs.Calls.{unlessRefused}
 use Rattle.rules.specs.Table.{rowCount, rowOf, tableWhy}
 
 -- a text as its bytes
@@ -99,3 +100,9 @@ writtenAs (Refused r) n = Written.Refused r
 
 unfoldable pub written : ℕ → ℕ → List ℕ → List ℕ → Written
 written variables budget table out = writtenAs (writeWhy variables budget table out) (length (tableText variables budget table))
+
+-- the lent bytes afterwards
+unfoldable pub writeOut : ℕ → ℕ → List ℕ → List ℕ → List ℕ
+writeOut variables budget table out =
+    let step = writeStep variables budget table out in
+    unlessRefused (writeWhy variables budget table out) step out

@@ -1,0 +1,89 @@
+-- `value_of` meets its contract: the value so far is that of the digits passed. Ten digits make a number that fits.
+use borrow.Author.Needs.{needs}
+use Prim.Native.Nat.{ℕ, suc, _+_, _-_, _*_, _≤_, _<_}
+use mathlib.Core.Path.{_≡_, refl, sym, ap, _∙_}
+use lib.ListN.{getD}
+use Rattle.rules.specs.Reader.{valueOf, digitRun}
+use Rattle.text_laws.proofs.Numbers.{Digits, digit-low, digit-high, run-digits, value-none, value-more, value-small}
+use native.Mathlib.Omega.{arith}
+use Rattle.text.proofs.numbers.value_of.Statement.{statement}
+use Rattle.text.proofs.numbers.value_of.Tie as tie
+use Rattle.text.proofs.numbers.value_of.Reads as reads
+use Rattle.text.proofs.numbers.value_of.Lts as lts
+use Rattle.text.proofs.bytes.byte_past.Reads as byte-past-reads
+use Rattle.text.proofs.numbers.wide.Reads as wide-reads
+
+abbrev Inv-loop : tie.InvT-loop
+Inv-loop s at n value₀ i₀ value i = (i ≤ n) × (value ≡ valueOf s at i)
+
+abbrev μ-loop : tie.MeasureT-loop
+μ-loop s at n value₀ i₀ value i = n - i
+
+record Turn (b value new : ℕ) : Type 0 where
+  low : 48 ≤ b
+  high : b < 58
+  small : value < 10_000_000_000
+  made : value * 10 + (b - 48) ≡ new
+
+turn : (c : tie.After-wide Inv-loop μ-loop) → Turn (c .wide .result) (c .before .before .before .loop .value) (valueOf (c .before .before .before .before .before .args .s .now) (c .before .before .before .before .before .args .at) (c .before .before .before .loop .i + 1))
+turn c =
+    let start = c .before .before .before .before .before in
+    let loop = c .before .before .before .loop in
+    let s = start .args .s .now in
+    let at = start .args .at in
+    let all : (i : ℕ) → i < loop .i + 1 → _ = λ i l. run-digits s at 11 i (omega (arith, start .pre .1)) in
+    let b : c .wide .result ≡ getD s (at + loop .i) 0 = c .wide .ensures ∙ c .before .byte-past .ensures in
+    let digit = all (loop .i) (omega arith) in
+    record {
+      low = rw b (digit-low (getD s (at + loop .i) 0) digit);
+      high = rw b (digit-high (getD s (at + loop .i) 0) digit);
+      small = rw (loop .inv .1) (value-small s at (loop .i) (λ i l. all i (omega arith)) (omega (arith, start .pre .0)));
+      made = rw (b, loop .inv .1) (sym (value-more s at (loop .i)));
+    }
+
+loop-holds : tie.Need-loop-holds Inv-loop μ-loop
+loop-holds c = (omega arith, sym (value-none _ _))
+
+byte-past-requires : tie.Need-byte-past-requires Inv-loop μ-loop
+byte-past-requires c κs = search needs
+
+wide-requires : tie.Need-wide-requires Inv-loop μ-loop
+wide-requires c κs = search needs
+
+sub-digit : tie.Need-sub-digit Inv-loop μ-loop
+sub-digit c = omega (arith, turn c .low)
+
+mul-value : tie.Need-mul-value Inv-loop μ-loop
+mul-value c = omega (arith, turn c .small)
+
+add-value : tie.Need-add-value Inv-loop μ-loop
+add-value c = omega (arith, turn c .small, turn c .high)
+
+add-i : tie.Need-add-i Inv-loop μ-loop
+add-i c = omega arith
+
+loop-less : tie.Need-loop-less Inv-loop μ-loop
+loop-less c = omega arith
+
+loop-again : tie.Need-loop-again Inv-loop μ-loop
+loop-again c = (omega arith, turn c .made)
+
+returns : tie.Need-returns Inv-loop μ-loop
+returns c = c .before .loop .inv .1 ∙ ap (valueOf (c .before .before .before .args .s .now) (c .before .before .before .args .at)) (let z : c .before .loop .i ≡ c .before .before .before .args .n = omega arith in z)
+
+pub value-of-spec : {M : Type 1} → statement M
+value-of-spec =
+    tie.close
+    (tie.spec
+    Inv-loop
+    μ-loop
+    loop-holds
+    byte-past-requires
+    wide-requires
+    sub-digit
+    mul-value
+    add-value
+    add-i
+    loop-less
+    loop-again
+    returns)

@@ -1,0 +1,13 @@
+pub mod Stands
+pub mod Numbers
+pub mod Branches
+pub mod Admissible
+pub mod Reading
+pub mod Writing
+pub mod Lines
+pub mod Lists
+pub mod ListsFound
+pub mod Rows
+pub mod Heads
+pub mod RoundTrip
+pub mod Converse

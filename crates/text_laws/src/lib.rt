@@ -1,0 +1,1 @@
+// Laws of the text's definitions, in proofs/: what is written is read back, and what is read was written so. No code.
