@@ -1,3 +1,5 @@
 pub mod Refusing
 pub mod Programs
 pub mod EntryPoints
+pub mod Rewriting
+pub mod Demands

@@ -151,7 +151,7 @@ pub weigh-said : (n : ℕ) (table : List ℕ) (full : ℕ) → weighing (weighed
 unfolding weighed weighWhy weighOrder
 weigh-said n table full = weighed-judged (weighWhy n table full) (weighs table full) ∙ both (tableWhy n table) _ (tableOrder n table) _ (table-said n table) (last _ BadReading)
 
-written-judged : (j : Judged) (k : ℕ) → writing (writtenAs j k) ≡ judged j
+pub written-judged : (j : Judged) (k : ℕ) → writing (writtenAs j k) ≡ judged j
 written-judged Fine k = refl
 written-judged (Refused r) k = refl
 
@@ -173,7 +173,7 @@ head-said s room (HeadRead.Lines n b m from) = lines-said s room n b m from
 head-said s room (HeadRead.Broken line) = refl
 
 -- a head that is broken is refused
-read-judged : (s : List ℕ) (room : ℕ) (h : HeadRead) → reading (textReadAs (headWhy s room h) h) ≡ judged (headWhy s room h)
+pub read-judged : (s : List ℕ) (room : ℕ) (h : HeadRead) → reading (textReadAs (headWhy s room h) h) ≡ judged (headWhy s room h)
 read-judged s room (HeadRead.Lines n b m from) = go (headWhy s room (HeadRead.Lines n b m from))
   where
     go : (j : Judged) → reading (textReadAs j (HeadRead.Lines n b m from)) ≡ judged j
