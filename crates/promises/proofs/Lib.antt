@@ -3,3 +3,4 @@ pub mod Programs
 pub mod EntryPoints
 pub mod Rewriting
 pub mod Demands
+pub mod Frauds
