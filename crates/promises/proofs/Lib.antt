@@ -1,0 +1,6 @@
+pub mod Refusing
+pub mod Programs
+pub mod EntryPoints
+pub mod Rewriting
+pub mod Demands
+pub mod Frauds

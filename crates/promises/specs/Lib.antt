@@ -1,0 +1,3 @@
+pub mod Orders
+pub mod EntryPoints
+pub mod Demands
