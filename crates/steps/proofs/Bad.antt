@@ -109,5 +109,5 @@ good d e =
       named = not-false t2 (b .0);
       added = not-false t4 (f .0);
       less = ltb-false (conceded d) (lastConceded d) (g .0);
-      light = not-false t6 (g .1)
+      light = not-false t6 (g .1);
     }

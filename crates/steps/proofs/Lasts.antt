@@ -46,10 +46,12 @@ unfolding namedWell distinct
 named-same d rows n first len few same =
     let k : length (take n rows) ≡ n = length-take-le n rows (omega arith) in
     let at : (i : ℕ) → i < n → getD (take n rows) i 0 ≡ lastNamed d i = λ i l. getD-take n rows i 0 l ∙ same i (omega arith) in
-    rw (k,
+    rw (
+      k,
       every-ext n {p = λ j. every j (λ i. not (eqb (getD (take n rows) i 0) (getD (take n rows) j 0)))} {q = λ j. every j (λ i. not (eqb (lastNamed d i) (lastNamed d j)))}
-      (λ j l. every-ext j (λ i m. rw (at i (omega arith), at j l))),
-      every-ext n {p = λ i. ltb (getD (take n rows) i 0) first} {q = λ i. ltb (lastNamed d i) first} (λ i l. rw (at i l)))
+          (λ j l. every-ext j (λ i m. rw (at i (omega arith), at j l))),
+      every-ext n {p = λ i. ltb (getD (take n rows) i 0) first} {q = λ i. ltb (lastNamed d i) first} (λ i l. rw (at i l)),
+    )
 
 -- a sum compared without making it
 pub added-up : (total n first : ℕ) → n ≤ total → total - n ≡ first → eqb total (first + n) ≡ true

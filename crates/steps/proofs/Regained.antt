@@ -54,8 +54,8 @@ module _ (d : List ℕ) (f : Formed d) (fits : lastFirst d ≤ inUse d) (apart :
       let k = emptied-use d (lastWeight d) (lastNamed d) (lastCount d) (lastFirst d) (inUse d - lastFirst d) c (head-inside f) in
       let v = emptied-conceded d (lastWeight d) (lastNamed d) (lastCount d) (lastFirst d) (inUse d - lastFirst d) c (head-inside f) in
       let same : (i : ℕ) → i < lastFirst d → rowOn rest i .weight ≡ rowOn (reweighed (λ x. x + lastWeight d) (lastNamed d) d (lastCount d)) i .weight =
-          λ i l. ap (λ (r : Row). r .weight) (row-same (reweighed (λ x. x + lastWeight d) (lastNamed d) d (lastCount d)) rest i
-          (λ p a b. emptied-below d (lastWeight d) (lastNamed d) (lastCount d) (lastFirst d) (inUse d - lastFirst d) c p (λ q. omega arith) (λ q. omega arith) (omega arith))) in
+      λ i l. ap (λ (r : Row). r .weight) (row-same (reweighed (λ x. x + lastWeight d) (lastNamed d) d (lastCount d)) rest i
+      (λ p a b. emptied-below d (lastWeight d) (lastNamed d) (lastCount d) (lastFirst d) (inUse d - lastFirst d) c p (λ q. omega arith) (λ q. omega arith) (omega arith))) in
       rw (k, v, sum-ext (lastFirst d) {f = λ i. rowOn rest i .weight} same)
       (ap (λ (s : ℕ). c + s) (regained-sum d (lastFirst d) (lastWeight d) (lastNamed d) (lastCount d) apart below
       (λ i l. row-inside f (lastNamed d i) (omega (arith, below i l, f .fitting)))))

@@ -87,8 +87,13 @@ module _ (d : List ℕ) (fine : takeBackWhy d ≡ Fine) where
     unfolding weightFits
     light =
         let total = leb-true (weightOn (undoRewriting d)) mostWeight (entry-good .light) in
-        omega (arith, total, weight-after d (taken .desk) use-fits (named-apart d (entry-good .named)) below,
-        mul-le-mul-right (lastWeight d) (some d some-kind known (entry-good .count)), two-times (lastWeight d))
+        omega (
+          arith,
+          total,
+          weight-after d (taken .desk) use-fits (named-apart d (entry-good .named)) below,
+          mul-le-mul-right (lastWeight d) (some d some-kind known (entry-good .count)),
+          two-times (lastWeight d),
+        )
 
     weight-fits : (i : ℕ) → i < inUse d → rowOn d i .weight ≤ mostWeight
     unfolding weightOn
@@ -111,7 +116,7 @@ module _ (d : List ℕ) (fine : takeBackWhy d ≡ Fine) where
             inside = λ i l. let k : i < lastCount d = omega (arith, named-length) in omega (arith, named-at i k, below i k, use-fits, taken .desk .reaching, taken .desk .fitting);
             apart = λ i j l m e. named-apart d (entry-good .named) i j l (omega (arith, named-length)) (sym (named-at i (omega (arith, named-length))) ∙ e ∙ named-at j (omega (arith, named-length)));
             fits = λ i l. let k : i < lastCount d = omega (arith, named-length) in rw (named-at i k) (omega (arith, weight-fits (lastNamed d i) (omega (arith, below i k, use-fits)), light));
-            holds = λ i l. omega arith
+            holds = λ i l. omega arith;
           }
 
       pub regained-same : reweighed (λ x. x + lastWeight d) (λ i. getD named i 0) d (length named) ≡ reweighed (λ x. x + lastWeight d) (lastNamed d) d (lastCount d)

@@ -17,10 +17,10 @@ use naming::count_fits;
 use naming::fewer_added;
 use naming::inner::reweigh;
 use naming::repeated;
-use rules::word;
 use rules::Judged;
 use rules::Refusal;
 use rules::Row;
+use rules::word;
 
 // Undoes the last standing step.
 pub fn take_back(desk: &mut [u64]) -> Judged

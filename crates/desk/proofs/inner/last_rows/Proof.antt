@@ -69,9 +69,11 @@ loop-less c = omega arith
 
 loop-again : tie.Need-loop-again Inv-loop μ-loop
 loop-again c =
-    let l = c .before .before .loop in
-    (omega arith, simp length-set (l .inv .1),
-    below-more _ _ (λ k h. getD-set-other (l .rows) (l .i) k _ 0 (λ q. omega arith) ∙ l .inv .2 k h) (getD-set-same (l .rows) (l .i) _ 0 (omega (arith, l .inv .1))))
+    let l = c .before .before .loop in (
+      omega arith,
+      simp length-set (l .inv .1),
+      below-more _ _ (λ k h. getD-set-other (l .rows) (l .i) k _ 0 (λ q. omega arith) ∙ l .inv .2 k h) (getD-set-same (l .rows) (l .i) _ 0 (omega (arith, l .inv .1))),
+    )
 
 returns : tie.Need-returns Inv-loop μ-loop
 unfolding lastNamed lastPlace entryPlace rowPlace

@@ -119,7 +119,7 @@ too-heavy-requires c κs =
       some = omega (arith, n, some d (s .pre .1 .0) (s .pre .1 .1) a);
       few = omega (arith, n, few d (s .pre .1 .0) (s .pre .1 .1) a);
       inUseFits = omega (arith, first-told (c .before .before .before .before .before .before .before .before .before .before .before .before), first-fits d (s .pre .1 .0) (s .pre .1 .1) a g);
-      startFits = omega (arith, c .word3 .ensures, f .light)
+      startFits = omega (arith, c .word3 .ensures, f .light);
     }
 
 returns-6 : tie.Need-returns-6
