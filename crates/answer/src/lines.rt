@@ -8,6 +8,7 @@ ghost use Rattle.rules.specs.Program.{refusalText, statusText, weightText, read
 ghost use Rattle.text.specs.Stored.{Stored};
 ghost use Rattle.answer.specs.Outcomes.{outcomeText};
 use crate::Outcome;
+use literals::Literal;
 use literals::Lits;
 use rules::Best;
 use rules::Found;
@@ -50,7 +51,7 @@ fn first_of(n: u64) -> u64
     requires { ⌜ n ≤ mostVariables ⌝ }
     ensures { λ r. ⌜ r ≡ 2 ^ n - 1 ⌝ }
 {
-    if n < 64 {
+    if n < Literal::MOST {
         let next = masks::single(n);
         next - 1
     } else {
