@@ -2,24 +2,25 @@
 use Prim.Native.Nat.{ℕ, _+_, _-_, _*_, _^_}
 use mathlib.Core.List.{List, [], _++_}
 use mathlib.Core.Bool.{Bool, true, cond}
-use lib.ListN.{length, replicate}
+use lib.ListN.{length, drop, replicate}
 use lib.Dec.{ltb}
 use Rattle.masks.specs.Masks.{without}
 use Rattle.literals.specs.declared.Lits.{Lits}
 use Rattle.rules.specs.declared.Refusal.{Refusal}
-use Rattle.rules.specs.declared.Refusal.the-variants.{InputTooLong}
+use Rattle.rules.specs.declared.Refusal.the-variants.{NoRoom, InputTooLong}
 use Rattle.rules.specs.declared.Judged.{Judged}
 use Rattle.rules.specs.declared.Judged.the-variants.{Fine, Refused}
 use Rattle.rules.specs.declared.Status.{Status}
 use Rattle.rules.specs.declared.Best.{Best}
 use Rattle.rules.specs.declared.Found.{Found}
 use Rattle.rules.specs.declared.TextRead.{TextRead}
-use Rattle.rules.specs.Refusals.{numberOf, placeOf}
+use Rattle.rules.specs.declared.Written.{Written}
+use Rattle.rules.specs.Refusals.{numberOf, placeOf, refuse, unlessRefused}
 use Rattle.rules.specs.Table.{rowWords, mostRows}
 use Rattle.rules.specs.Desk.{deskWords, loadWhy, loadStep}
 use Rattle.rules.specs.Bound.{bound}
 use Rattle.rules.specs.Walk.{walkOf, foundBy}
-use Rattle.rules.specs.Text.{bytes, numberText, line, litsText}
+use Rattle.rules.specs.Text.{bytes, numberText, line, litsText, writtenAs}
 use Rattle.rules.specs.Reader.{textRead, readWords}
 
 -- 19: input over 65,536 bytes
@@ -69,3 +70,22 @@ readAnswer table (TextRead.Refused r) = refusalText r
 -- Program: 19, reader, load.
 unfoldable pub answer : List ℕ → List ℕ
 answer input = cond (ltb mostInput (length input)) (refusalText InputTooLong) (readAnswer (readWords input) (textRead input (rowWords * mostRows)))
+
+-- The answer into lent bytes. 4: the lent output is too short.
+unfoldable pub answerWhy : List ℕ → List ℕ → Judged
+answerWhy input output = refuse (ltb (length output) (length (answer input))) NoRoom Fine
+
+-- "An accepted call writes nothing past its output's end."
+unfoldable pub answerStep : List ℕ → List ℕ → List ℕ
+answerStep input output =
+    let text = answer input in
+    text ++ drop (length text) output
+
+unfoldable pub answered : List ℕ → List ℕ → Written
+answered input output = writtenAs (answerWhy input output) (length (answer input))
+
+-- the lent bytes afterwards
+unfoldable pub answerOut : List ℕ → List ℕ → List ℕ
+answerOut input output =
+    let step = answerStep input output in
+    unlessRefused (answerWhy input output) step output

@@ -1,0 +1,42 @@
+-- `put_outcome` meets its contract: the lines of the case.
+use Rattle.answer.proofs.Written.{outcome-refused, outcome-found}
+use borrow.Author.Needs.{needs}
+use Rattle.answer.proofs.lines.put_outcome.Statement.{statement}
+use Rattle.answer.proofs.lines.put_outcome.Tie as tie
+
+enum-known-searched : tie.Need-enum-known-searched
+enum-known-searched c = search needs
+
+put-refusal-requires : tie.Need-put-refusal-requires
+put-refusal-requires c κs = search needs
+
+enum-known-searched-2 : tie.Need-enum-known-searched-2
+enum-known-searched-2 c = search needs
+
+put-found-requires : tie.Need-put-found-requires
+put-found-requires c κs = search needs
+
+same-length : tie.Need-same-length
+same-length c = search needs
+
+returns : tie.Need-returns
+returns c = rw (outcome-refused (c .before .before .before .before .before .before .before .before .args .outcome) _ (c .before .before .before .before .before .searched .given .1)) (c .before .before .put-refusal .ensures)
+
+same-length-2 : tie.Need-same-length-2
+same-length-2 c = search needs
+
+returns-2 : tie.Need-returns-2
+returns-2 c = rw (outcome-found (c .before .before .before .before .before .before .before .before .args .outcome) _ (c .before .before .before .before .before .searched2 .given .1)) (c .before .before .put-found .ensures)
+
+pub put-outcome-spec : {M : Type 1} → statement M
+put-outcome-spec =
+    tie.close
+    (tie.spec
+    enum-known-searched
+    put-refusal-requires
+    enum-known-searched-2
+    put-found-requires
+    same-length
+    returns
+    same-length-2
+    returns-2)

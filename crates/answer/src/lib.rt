@@ -1,0 +1,32 @@
+// The program's answer: a text in, a text out, both in lent bytes. What is read and what is written stand in document 01's words in
+// the rules; this room only puts reader, desk, search and lines one behind the other.
+ghost use mathlib.Core.Path.{_≡_};
+ghost use Rattle.rules.specs.Program.{answered, answerOut};
+use rules::Refusal;
+use rules::Searched;
+use rules::Written;
+
+mod lines;
+mod outcomes;
+
+// What an input comes to: a search of so many variables, or a refusal.
+pub struct Outcome {
+    pub variables: u64,
+    pub searched: Searched,
+}
+
+// How many bytes the answer to the input has, which then stand at the front of those lent; or 4, and they are as they were. The first
+// run over the lines writes nowhere and tells how long they are.
+pub fn answer(input: &[u8], output: &mut [u8]) -> Written
+    ensures answer { λ r. ⌜ r ≡ answered (now (input .entry)) (now (output .entry)) ⌝ }
+    ensures bytes { λ _. ⌜ now (output .exit) ≡ answerOut (now (input .entry)) (now (output .entry)) ⌝ }
+{
+    let outcome = outcomes::outcome_of(input);
+    let mut nowhere = [0u8; 1];
+    let n = lines::put_outcome(&mut nowhere, outcome);
+    if output.len() < n {
+        return Written::Refused(Refusal::NoRoom);
+    }
+    lines::put_outcome(output, outcome);
+    Written::Bytes(n)
+}
