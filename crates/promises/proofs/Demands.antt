@@ -34,6 +34,7 @@ use Rattle.rules.specs.Bound.{bound, deskWhy, bounded}
 use Rattle.rules.specs.Walk.{undecided, atStart, bestOf, searched, foundBy}
 use Rattle.rules.specs.Text.{tableText, writeWhy, writeStep, written, writeOut}
 use Rattle.rules.specs.Reader.{headAt, readWhy, readWords, readStep, textRead, readTable}
+use Rattle.rules.specs.Program.{answer, answerWhy, answerStep, answered, answerOut}
 use Rattle.rules.specs.Calls.{Call, afterCalls}
 use Rattle.step_laws.specs.Standing.{standingCalls}
 use Rattle.step_laws.proofs.Formed.{formed}
@@ -54,7 +55,7 @@ use Rattle.text_laws.proofs.Converse.{converse}
 use Rattle.promises.specs.Orders.{Rule, Said, accepted, refused, judged, reading, writing}
 use Rattle.promises.specs.Demands.{Refuses, Demand1, TrueFirst, Finished, metBy, BestOf, nothing, one, Stopped, Demand2, Kept, Demand3, Outcome, Permits, OneOutcome, Determined}
 use Rattle.promises.proofs.EntryPoints as entry
-use Rattle.promises.proofs.Refusing.{firstOf, exactly, read-judged, written-judged, load-said, decide-said, rewrite-said, take-back-said, read-said, write-said, weigh-said, bound-said, search-said}
+use Rattle.promises.proofs.Refusing.{firstOf, exactly, read-judged, written-judged, load-said, decide-said, rewrite-said, take-back-said, read-said, write-said, weigh-said, bound-said, search-said, answer-said}
 use Rattle.promises.proofs.Programs.{program-answers}
 use Rattle.promises.proofs.Rewriting.{rewriting}
 
@@ -91,6 +92,11 @@ unfolding written writeOut
 write-refuses n budget table out number place e =
     left (writeWhy n budget table out) (writeStep n budget table out) out number place (sym (written-judged (writeWhy n budget table out) _) ∙ e)
 
+answer-refuses : (input output : List ℕ) (number place : ℕ) → writing (answered input output) ≡ refused number place → answerOut input output ≡ output
+unfolding answered answerOut
+answer-refuses input output number place e =
+    left (answerWhy input output) (answerStep input output) output number place (sym (written-judged (answerWhy input output) _) ∙ e)
+
 pub demand-1 : Demand1
 demand-1 =
     record {
@@ -105,6 +111,7 @@ demand-1 =
       weight = λ n table full. exactly _ _ (weigh-said n table full);
       bound = λ d. exactly _ _ (bound-said d);
       search = λ d budget. exactly _ _ (search-said d budget);
+      answer = λ input output. record { exactly = exactly _ _ (answer-said input output); unchanged = answer-refuses input output };
       program = program-answers;
     }
 
@@ -248,5 +255,5 @@ determined =
       search = λ d budget. coincide (searched d budget) d;
       read = λ text table. coincide (textRead text (length table)) (readTable text table);
       write = λ n budget table out. coincide (written n budget table out) (writeOut n budget table out);
-      program = λ input. coincide _ input;
+      answer = λ input output. coincide (answered input output) (answerOut input output);
     }

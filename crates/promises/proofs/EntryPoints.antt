@@ -15,6 +15,7 @@ use Rattle.bound.proofs.bound.Met.{met as bound-met}
 use Rattle.walk.proofs.search.Met.{met as search-met}
 use Rattle.text.proofs.read.Met.{met as read-met}
 use Rattle.text.proofs.write.Met.{met as write-met}
+use Rattle.answer.proofs.answer.Met.{met as answer-met}
 use Rattle.promises.specs.EntryPoints.{Met, NothingAsked}
 
 pub met : Met
@@ -28,6 +29,7 @@ met =
       search = search-met;
       read = read-met;
       write = write-met;
+      answer = answer-met;
     }
 
 pub asked : {M : Type 1} (𝓤 : URA M) (H : Heap 𝓤) (A : Atoms 𝓤) (memory : Memory → SProp 𝓤) (run : Routine → Fun 𝓤) → NothingAsked 𝓤 H A memory run
@@ -41,4 +43,5 @@ asked 𝓤 H A memory run =
       search = λ κs args. (tt, refl);
       read = λ κs args. (tt, refl);
       write = λ κs args. (tt, refl);
+      answer = λ κs args. (tt, refl);
     }

@@ -24,9 +24,9 @@ use Rattle.rules.specs.TakeBack.{takeBackWhy}
 use Rattle.rules.specs.Bound.{bound, deskWhy, boundedAs, bounded}
 use Rattle.rules.specs.Walk.{foundBy, walkOf, searchedAs, searched}
 use Rattle.rules.specs.Text.{tableText, writeWhy, writtenAs, written}
-use Rattle.rules.specs.Program.{mostInput, refusalText, foundText, programDesk, loadedAnswer, readAnswer, answer}
+use Rattle.rules.specs.Program.{mostInput, refusalText, foundText, programDesk, loadedAnswer, readAnswer, answer, answerWhy, answered}
 use Rattle.rules.specs.Reader.{RowsRead, rows, brokenAt, rowsAt, headAt, restWhy, headWhy, readWhy, textReadAs, textRead, readWords}
-use Rattle.promises.specs.Orders.{Rule, gives, givesAt, NoneDue, none, next, FirstDue, here, later, Said, accepted, refused, refusal, judged, weighing, bounding, searching, reading, writing, ExactlyWhen, rowsOrder, loadOrder, tableOrder, weighOrder, writeOrder, restOrder, headOrder, readOrder, decideOrder, rewriteOrder, takeBackOrder, deskOrder, programLoad, programOrder}
+use Rattle.promises.specs.Orders.{Rule, gives, givesAt, NoneDue, none, next, FirstDue, here, later, Said, accepted, refused, refusal, judged, weighing, bounding, searching, reading, writing, ExactlyWhen, rowsOrder, loadOrder, tableOrder, weighOrder, writeOrder, restOrder, headOrder, readOrder, decideOrder, rewriteOrder, takeBackOrder, deskOrder, answerOrder, programLoad, programOrder}
 
 -- ---- any order
 
@@ -216,3 +216,7 @@ searched-judged (Refused r) f = refl
 pub search-said : (d : List ℕ) (budget : ℕ) → searching (searched d budget) ≡ firstOf (deskOrder d)
 unfolding searched
 search-said d budget = searched-judged (deskWhy d) _ ∙ desk-said d
+
+pub answer-said : (input output : List ℕ) → writing (answered input output) ≡ firstOf (answerOrder input output)
+unfolding answered answerWhy answerOrder
+answer-said input output = written-judged (answerWhy input output) _ ∙ last _ NoRoom

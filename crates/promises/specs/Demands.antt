@@ -37,13 +37,13 @@ use Rattle.rules.specs.Bound.{bound, bounded}
 use Rattle.rules.specs.Walk.{mostBudget, undecided, atStart, searched}
 use Rattle.rules.specs.Text.{tableText, written, writeOut}
 use Rattle.rules.specs.Reader.{textRead, readWords, readTable}
-use Rattle.rules.specs.Program.{answer}
+use Rattle.rules.specs.Program.{answered, answerOut}
 use Rattle.rules.specs.Calls.{Call, afterCalls}
 use Rattle.step_laws.specs.StepTable.{Fits}
 use Rattle.step_laws.specs.Standing.{standingCalls, AllFine, NeverTen}
 use Rattle.walk_laws.specs.Scan.{met}
 use Rattle.promises.specs.EntryPoints.{Met, NothingAsked}
-use Rattle.promises.specs.Orders.{Rule, Said, refused, judged, weighing, bounding, searching, reading, writing, ExactlyWhen, loadOrder, weighOrder, writeOrder, readOrder, decideOrder, rewriteOrder, takeBackOrder, deskOrder, ProgramAnswers}
+use Rattle.promises.specs.Orders.{Rule, Said, refused, judged, weighing, bounding, searching, reading, writing, ExactlyWhen, loadOrder, weighOrder, writeOrder, readOrder, decideOrder, rewriteOrder, takeBackOrder, deskOrder, answerOrder, ProgramAnswers}
 
 -- ---- demand 1
 
@@ -68,7 +68,8 @@ pub record Demand1 : Type 2 where
   pub weight : (n : ℕ) (table : List ℕ) (full : ℕ) → ExactlyWhen (weighing (weighed n table full)) (weighOrder n table full)
   pub bound : (d : List ℕ) → ExactlyWhen (bounding (bounded d)) (deskOrder d)
   pub search : (d : List ℕ) (budget : ℕ) → ExactlyWhen (searching (searched d budget)) (deskOrder d)
-  -- the program, from input to output
+  -- the program, from input to output: which answer, and that it is written
+  pub answer : (input output : List ℕ) → Refuses (writing (answered input output)) (answerOrder input output) output (answerOut input output)
   pub program : (input : List ℕ) → ProgramAnswers input
 
 -- ---- demand 2
@@ -197,4 +198,4 @@ pub record Determined : Type 0 where
   pub search : (d : List ℕ) (budget : ℕ) → OneOutcome (searched d budget) d
   pub read : (text table : List ℕ) → OneOutcome (textRead text (length table)) (readTable text table)
   pub write : (n budget : ℕ) (table out : List ℕ) → OneOutcome (written n budget table out) (writeOut n budget table out)
-  pub program : (input : List ℕ) → OneOutcome (answer input) input
+  pub answer : (input output : List ℕ) → OneOutcome (answered input output) (answerOut input output)

@@ -29,6 +29,8 @@ use Rattle.walk.proofs.search.Statement.{statement as search-statement}
 use Rattle.text.proofs.read as read
 use Rattle.text.proofs.read.Statement.{statement as read-statement}
 use Rattle.text.proofs.write as write
+use Rattle.answer.proofs.answer as answer
+use Rattle.answer.proofs.answer.Statement.{statement as answer-statement}
 use Rattle.text.proofs.write.Statement.{statement as write-statement}
 
 -- each entry point meets its contract
@@ -41,6 +43,7 @@ pub record Met : Type 2 where
   pub search : {M : Type 1} → search-statement M
   pub read : {M : Type 1} → read-statement M
   pub write : {M : Type 1} → write-statement M
+  pub answer : {M : Type 1} → answer-statement M
 
 -- a contract with no `requires`: whatever is passed, what it asks of the caller is the assertion that always holds
 abbrev pub AsksNothing : {M : Type 1} (𝓤 : URA M) (S : Signature) → Spec 𝓤 S → Type 2
@@ -55,3 +58,4 @@ pub record NothingAsked {M : Type 1} (𝓤 : URA M) (H : Heap 𝓤) (A : Atoms �
   pub search : AsksNothing 𝓤 search.signature (search.spec 𝓤 H A memory run)
   pub read : AsksNothing 𝓤 read.signature (read.spec 𝓤 H A memory run)
   pub write : AsksNothing 𝓤 write.signature (write.spec 𝓤 H A memory run)
+  pub answer : AsksNothing 𝓤 answer.signature (answer.spec 𝓤 H A memory run)

@@ -188,6 +188,10 @@ programOrder input =
     ∷ (readOrder input (rowWords * mostRows)
     ++ programLoad (readWords input) (headAt input))
 
+-- the answer into lent bytes, whatever it says: "4: the lent output .. is too short"
+unfoldable pub answerOrder : List ℕ → List ℕ → List Rule
+answerOrder input output = gives 4 (ltb (length output) (length (answer input))) ∷ []
+
 -- "A refusal writes three lines: `status=refused`, `number=`, `place=`."
 unfoldable pub refusalLines : ℕ → ℕ → List ℕ
 refusalLines number place = line "status=" (bytes "refused") ++ (line "number=" (numberText number) ++ line "place=" (numberText place))
