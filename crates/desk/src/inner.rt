@@ -1,14 +1,18 @@
 // Rows and entries of a desk, read and written where the caller has seen that they lie within the lent words.
 ghost use mathlib.Core.Path.{_≡_};
-ghost use Prim.Native.Nat.{_+_, _*_, _≤_, _<_};
+ghost use Prim.Native.Nat.{ℕ, _+_, _*_, _≤_, _<_};
 ghost use lib.ListN.{length, getD, set};
-ghost use Rattle.rules.specs.Table.{rowIn, rowWords};
+ghost use lib.Dec.{ltb};
+ghost use Rattle.masks.specs.Sums.{sum};
+ghost use Rattle.rules.specs.Table.{rowIn, rowWords, mostWeight};
 ghost use lib.Seq.{sets};
-ghost use Rattle.rules.specs.Desk.{headWords, entryWords, rowOn, setRow, setWeight};
+ghost use Rattle.rules.specs.Desk.{headWords, entryWords, rowPlace, rowOn, setRow, setWeight};
 ghost use Rattle.rules.specs.Decide.{entered};
-ghost use Rattle.rules.specs.TakeBack.{lastPlace, withdrawn};
+ghost use Rattle.rules.specs.TakeBack.{lastPlace, lastNamed, withdrawn};
+ghost use Rattle.rules.specs.Rewrite.{mostNamed};
 ghost use Rattle.desk.specs.Room.{EntryLeft, StepStands};
 ghost use Rattle.masks.specs.Words.{zeroed};
+use crate::judge::sum_over;
 use literals::Lits;
 use rules::Desk;
 use rules::Entry;
@@ -112,4 +116,37 @@ pub fn withdraw(desk: &mut [u64])
         Entry::WORDS,
     );
     desk[3] = n - 1;
+}
+
+// The row numbers of the last entry.
+pub fn last_rows(desk: &[u64]) -> [u64; 12]
+    requires { ⌜ StepStands (now desk) ⌝ }
+    ensures { λ r. ⌜ ((i : ℕ) → i < mostNamed → getD r i 0 ≡ lastNamed (now (desk .entry)) i) ⌝ }
+{
+    let c = desk[2] as usize;
+    let n = desk[3] as usize;
+    let at = Desk::HEAD + Row::WORDS * c + Entry::WORDS * (n - 1) + 3;
+    let mut rows = [0u64; 12];
+    let mut i = 0;
+    while i < Entry::NAMED {
+        rows[i] = desk[at + i];
+        i += 1;
+    }
+    rows
+}
+
+// Whether `start` and the weights of the first n rows of a desk come to more than the limit, whatever the words.
+pub fn over(desk: &[u64], n: usize, start: u64) -> bool
+    requires { ⌜ headWords + rowWords * n ≤ length (now desk) ⌝ }
+    ensures { λ r. ⌜ r ≡ ltb mostWeight (start + sum n (λ i. rowOn (now (desk .entry)) i .weight)) ⌝ }
+{
+    sum_over(desk, Desk::HEAD, n, start)
+}
+
+// Rows of a desk are zeroed, n of them from row `first` on.
+pub fn zero_rows(desk: &mut [u64], first: usize, n: usize)
+    requires { ⌜ headWords + rowWords * (first + n) ≤ length (now desk) ⌝ }
+    ensures { λ _. ⌜ now (desk .exit) ≡ zeroed (now (desk .entry)) (rowPlace first) (rowWords * n) ⌝ }
+{
+    zero(desk, Desk::HEAD + Row::WORDS * first, Row::WORDS * n);
 }

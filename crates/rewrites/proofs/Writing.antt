@@ -22,18 +22,15 @@ use Rattle.rules.specs.Decide.{entered}
 use Rattle.step_laws.proofs.Formed.{Formed}
 use Rattle.step_laws.proofs.Stores.{length-reweighed, reweighed-out, length-laid, laid-out}
 use Rattle.step_laws.proofs.Verdicts.{Rewritten}
-use Rattle.step_laws.proofs.ByKind.{Yields, yields, by-kind}
+use Rattle.step_laws.proofs.ByKind.{Yields, yields}
 use Rattle.step_laws.proofs.Accepted.{plan}
 use Rattle.desk.specs.Room.{EntryLeft}
 use Rattle.naming.specs.Reweigh.{Reweighable}
+use Rattle.naming.proofs.Pairs.{concedes-once}
 use Rattle.rewrites.specs.Rows.{OnDesk, Behind, WellNamed, Fitting, addedRows}
 use Rattle.rewrites.proofs.Counts.{well-named, two-named}
 use Rattle.rewrites.proofs.Namings.{Names, on-desk, named-sound, added-stored}
 use Rattle.rewrites.proofs.Laying.{remnant-reweighed, lies-still}
-
-concedes-once : (kind : ℕ) → 1 ≤ kind → kind ≤ 4 → concedes kind ≤ 1
-unfolding concedes
-concedes-once = by-kind (λ k. concedes k ≤ 1) (omega arith) (omega arith) (omega arith) (omega arith)
 
 module _ (d : List ℕ) (kind : ℕ) (named : List ℕ) (ok : Rewritten d kind named) where
   abbrev pub w : ℕ
@@ -86,7 +83,7 @@ module _ (d : List ℕ) (kind : ℕ) (named : List ℕ) (ok : Rewritten d kind n
   pub owed-once : w * cond (eqb kind 1 && eqb (addedRows d kind named) 0) 1 (concedes kind) ≤ mostWeight
   owed-once =
       let few : cond (eqb kind 1 && eqb (addedRows d kind named) 0) 1 (concedes kind) ≤ 1 =
-      cond-elim (λ (x : ℕ). x ≤ 1) (eqb kind 1 && eqb (addedRows d kind named) 0) 1 (concedes kind) (λ e. omega arith) (λ e. concedes-once kind (ok .known .0) (ok .known .1)) in
+      cond-elim (λ (x : ℕ). x ≤ 1) (eqb kind 1 && eqb (addedRows d kind named) 0) 1 (concedes kind) (λ e. omega arith) (λ e. concedes-once kind) in
       le-trans (mul-le-mul-left w few) (le-trans (le-of-eq (mul-one w)) light)
 
   length-lowered : length lowered ≡ length d

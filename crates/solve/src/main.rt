@@ -1,8 +1,9 @@
 // Standard input to its end, then the program's answer on standard output. No contract can say what is read or written, so all that
 // can be stated is stated of `reply`.
-ghost use Prim.Native.Nat.{_≤_};
+ghost use Prim.Native.Nat.{_+_, _≤_};
 ghost use mathlib.Core.Path.{_≡_};
 ghost use lib.ListN.{length};
+ghost use Rattle.rules.specs.Program.{mostInput};
 ghost use Rattle.answer.proofs.Lengths.{mostAnswer};
 ghost use Rattle.solve.specs.Replies.{Replies};
 use libc::STDIN_FILENO;
@@ -16,7 +17,7 @@ const KEPT: usize = TextRead::MOST_INPUT + 1;
 const ROOM: usize = 827;
 
 fn kept() -> [u8; KEPT]
-    ensures { λ r. ⌜ length r ≡ 65537 ⌝ }
+    ensures { λ r. ⌜ length r ≡ mostInput + 1 ⌝ }
 {
     [0; KEPT]
 }

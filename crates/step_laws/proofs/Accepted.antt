@@ -6,7 +6,7 @@ use mathlib.Core.Path.{_≡_, refl, sym, ap, _∙_}
 use mathlib.Core.Logic.{_⊎_, inl, inr, ⊎-elim}
 use mathlib.Core.Bool.{Bool, true, false, cond, _&&_, _||_, or-true}
 use mathlib.Core.List.{List, [], _∷_}
-use native.Mathlib.Nat.{le-refl, le-trans, eq-or-lt-of-le, mul-add, mul-le-mul-left}
+use native.Mathlib.Nat.{le-trans, mul-add, mul-le-mul-left}
 use native.Mathlib.Omega.{arith}
 use borrow.Author.Tests.{eqb-true, eq-eqb, ne-eqb, le-leb, le-ltb, lt-ltb}
 use lib.Bits.{bitAnd}
@@ -18,12 +18,12 @@ use Rattle.masks.proofs.Sums.{sum-ext, smallest-le, every-true}
 use Rattle.literals.specs.declared.Lits.{Lits}
 use Rattle.rules.specs.declared.Judged.the-variants.{Fine}
 use Rattle.rules.specs.Table.{mostWeight}
-use Rattle.rules.specs.Desk.{headWords, variables, inUse, capacity, standing, conceded, decided, truths, loaded, entryWords, rowPlace, entryPlace, deskWords, rowOn, setRow, weightOn, weightFits, decisions, remnant}
-use Rattle.rules.specs.Rewrite.{mostNamed, most, fewerAdded, countFits, distinct, remnantOf, apartFrom, given, stored, empties, lightest, reweighed, laid}
+use Rattle.rules.specs.Desk.{headWords, variables, inUse, capacity, standing, conceded, decided, truths, loaded, entryWords, rowPlace, entryPlace, deskWords, rowOn, weightOn, weightFits, decisions, remnant}
+use Rattle.rules.specs.Rewrite.{mostNamed, most, fewerAdded, countFits, distinct, remnantOf, apartFrom, given, stored, empties, lightest, reweighed}
 use Rattle.rules.specs.TakeBack.{lastKind, lastCount, lastNamed, lastFirst, mergedEmpty, lastConceded, undoRewriting, takeBackStep, badRewriting, badLast, takeBackWhy}
 use Rattle.step_laws.specs.Clean.{Clean}
-use Rattle.step_laws.proofs.Formed.{Sound, Formed, well, rows-inside, place-mono}
-use Rattle.step_laws.proofs.Stores.{Distinct, length-set-row, set-row-same, laid-before, reweighed-out, reweighed-lits, length-reweighed}
+use Rattle.step_laws.proofs.Formed.{Sound, Formed, well, rows-inside}
+use Rattle.step_laws.proofs.Stores.{Distinct, laid-before, laid-at, reweighed-out, reweighed-lits, length-reweighed}
 use Rattle.step_laws.proofs.Verdicts.{Rewritten}
 use Rattle.step_laws.proofs.Entries.{entry-past, entry-next}
 use Rattle.step_laws.proofs.Weights.{missed, measured, weight-measured}
@@ -31,7 +31,7 @@ use Rattle.step_laws.proofs.Rewritings.{rowsAfter, rewritten, Plan, row
 use Rattle.step_laws.proofs.Undone.{rewriting-undone}
 use Rattle.step_laws.proofs.Balance.{total, balance}
 use Rattle.step_laws.proofs.Readings.{holds-remnant}
-use Rattle.step_laws.proofs.Sounds.{apart-sound, Each, stored-each, stored-count, total-stored}
+use Rattle.step_laws.proofs.Sounds.{apart-sound, each-at, stored-each, stored-count, total-stored}
 use Rattle.step_laws.proofs.ByKind.{Yields, yields, by-kind, counted}
 
 -- a remnant is the row apart from the decided variables
@@ -41,18 +41,6 @@ remnant-sound n d s = unfold remnant decisions in (unfold apartFrom in apart-sou
 most-named : (kind : ℕ) → 1 ≤ kind → kind ≤ 4 → most kind ≤ mostNamed
 unfolding most
 most-named = by-kind (λ k. most k ≤ mostNamed) (omega arith) (omega arith) (omega arith) (omega arith)
-
--- what holds of each given row holds of the row laid
-laid-each : (P : Lits → Type 0) (d : List ℕ) (i w : ℕ) (ls : List Lits) → Each P ls → rowPlace (i + length ls) ≤ length d
-    → (j : ℕ) → i ≤ j → j < i + length ls → P (rowOn (laid d i w ls) j .lits)
-unfolding laid
-laid-each P d i w [] e h j a b = absurd (omega arith)
-laid-each P d i w (l ∷ ls) e h j a b =
-    let n : i + suc (length ls) ≡ suc i + length ls = omega arith in
-    ⊎-elim
-    (λ q. rw (← q) (rw (laid-before (setRow d i l w) (suc i) w ls i (le-refl (suc i)), set-row-same d i l w (le-trans (place-mono (omega arith)) h)) (e .0)))
-    (λ m. laid-each P (setRow d i l w) (suc i) w ls (e .1) (rw (length-set-row d i l w, ← n) h) j m (omega arith))
-    (eq-or-lt-of-le a)
 
 sum-ones : (k : ℕ) → sum k (λ i. 1) ≡ k
 unfolding sum
@@ -160,7 +148,10 @@ module _ (d : List ℕ) (kind : ℕ) (named : List ℕ) (ok : Rewritten d kind n
       rw (rewritten-row d kind w named new owed plan i (omega (arith, ok .space)))
       (⊎-elim
       (λ l. rw (laid-before f (inUse d) w new i l, reweighed-lits (λ x. x - w) (λ j. getD named j 0) d (length named) i) (ok .desk .sound i l))
-      (λ l. laid-each (Sound (variables d)) f (inUse d) w new (stored-each (Sound (variables d)) rows (debts .sound)) inside i l h)
+      (λ l.
+      let e : inUse d + (i - inUse d) ≡ i = omega arith in
+      let place : i - inUse d < length new = omega arith in
+      rw (← e, laid-at f (inUse d) w new inside (i - inUse d) place) (each-at (Sound (variables d)) new (stored-each (Sound (variables d)) rows (debts .sound)) (i - inUse d) place))
       (lt-or-le i (inUse d)))
 
   pub rewritten-formed : Formed after

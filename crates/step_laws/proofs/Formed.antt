@@ -2,16 +2,16 @@
 -- The definition is a conjunction of tests; each test is a fact, and `omega` reads the facts.
 -- A set of literals is sound for a count of variables where 5 does not refuse it.
 use Prim.Native.Nat.{ℕ, _+_, _≤_, _<_, _^_}
-use mathlib.Core.Path.{_≡_, refl}
+use mathlib.Core.Path.{_≡_}
 use mathlib.Core.List.{List}
-use mathlib.Core.Bool.{Bool, true, false, not, _&&_, _||_, and-eq-true-iff, true≢false}
+use mathlib.Core.Bool.{Bool, true, false, not, _&&_, _||_, and-eq-true-iff}
 use native.Mathlib.Omega.{arith}
 use borrow.Author.Tests.{leb-true, le-leb, not-true, not-false}
 use lib.ListN.{length}
 use lib.Bits.{bitAnd}
 use lib.Dec.{leb}
 use Rattle.masks.specs.Masks.{none, without, below}
-use Rattle.masks.proofs.Choice.{and-left, and-right, both}
+use Rattle.masks.proofs.Choice.{or-left, or-right, and-left, and-right, both}
 use Rattle.masks.proofs.Bits.{below-lt, lt-below}
 use Rattle.masks.proofs.Sets.{none-zero, zero-none}
 use Rattle.masks.proofs.Sums.{every-at, every-true}
@@ -42,8 +42,7 @@ pub record Formed (d : List ℕ) : Type 0 where
 -- ---- literals
 
 pub neither : (a b : Bool) → (a || b) ≡ false → (a ≡ false) × (b ≡ false)
-neither true b e = absurd (true≢false e)
-neither false b e = (refl, e)
+neither a b e = (or-left a b e, or-right a b e)
 
 pub sound-of : (n : ℕ) (l : Lits) → badLits n l ≡ false → Sound n l
 unfolding badLits

@@ -11,7 +11,7 @@ use borrow.Author.Tests.{eq-eqb}
 use lib.Bits.{bitAnd, bitOr, or-comm, and-comm, or-zero-r}
 use lib.IntN.{ℤ}
 use Rattle.masks.specs.Masks.{has, without, count}
-use Rattle.masks.proofs.Choice.{cases, both, clash, not-so, same1}
+use Rattle.masks.proofs.Choice.{cases, both, same1}
 use Rattle.masks.proofs.Bits.{has-ext, has-and, has-or, has-zero}
 use Rattle.masks.proofs.Sets.{apart, apart-of, without-or-right, without-apart}
 use Rattle.literals.specs.declared.Lits.{Lits}

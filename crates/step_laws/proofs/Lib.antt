@@ -24,3 +24,4 @@ pub mod TakingBack
 pub mod Shown
 pub mod InWords
 pub mod Found
+pub mod Frames

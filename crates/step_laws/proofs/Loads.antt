@@ -10,7 +10,7 @@ use borrow.Author.Tests.{ltb-false, eqb-true, not-false}
 use lib.Dec.{eqb, ltb}
 use lib.ListN.{length, getD, drop, replicate, length-append, length-drop, length-replicate, getD-replicate, List·getD-append}
 use lib.Pow.{pow-pos}
-use lib.Seq.{getD-append-add}
+use lib.Seq.{getD-append-add, getD-drop}
 use Rattle.masks.specs.Sums.{sum}
 use Rattle.masks.proofs.Sets.{zero-without}
 use Rattle.masks.proofs.Sums.{sum-ext, upwards}
@@ -98,6 +98,18 @@ module _ (n : ℕ) (table : List ℕ) (c : ℕ) (d : List ℕ) (ok : Loaded n ta
       ap (λ (q : ℕ). getD after q 0) e ∙ past-head (length table + k)
       ∙ getD-append-add table (zeros ++ drop (deskWords c) d) k 0 ∙ List·getD-append zeros (drop (deskWords c) d) 0 k z
       ∙ getD-replicate (rowWords * c - length table + mostSteps * entryWords) k 0 0 l
+
+  -- what lay past the desk lies there still
+  pub loaded-past : (p : ℕ) → deskWords c ≤ p → getD after p 0 ≡ getD d p 0
+  unfolding deskWords rowPlace
+  loaded-past p h =
+      let m : ℕ = rowWords * c - length table + mostSteps * entryWords in
+      let k : ℕ = p - deskWords c in
+      let e : p ≡ 8 + (length table + (length zeros + k)) = omega (arith, length-replicate {A = ℕ} m 0, ok .whole, ok .space) in
+      let q : deskWords c + k ≡ p = omega arith in
+      ap (λ (x : ℕ). getD after x 0) e ∙ past-head (length table + (length zeros + k))
+      ∙ getD-append-add table (zeros ++ drop (deskWords c) d) (length zeros + k) 0 ∙ getD-append-add zeros (drop (deskWords c) d) k 0
+      ∙ getD-drop (deskWords c) d k 0 ∙ ap (λ (x : ℕ). getD d x 0) q
 
   pub length-loaded : length after ≡ length d
   unfolding loadStep deskWords rowPlace

@@ -11,9 +11,9 @@ use borrow.Author.Tests.{ne-eqb, not-false}
 use lib.Bits.{bitAnd, bitOr, and-comm, and-zero-l}
 use lib.Pow.{pow-pos}
 use Rattle.masks.specs.Masks.{has, none, without}
-use Rattle.masks.proofs.Choice.{cases, same1, same3, same-test, both, and-left, and-right}
+use Rattle.masks.proofs.Choice.{cases, same1, same3}
 use Rattle.masks.proofs.Bits.{has-ext, has-and, has-or, has-without, has-zero}
-use Rattle.masks.proofs.Sets.{none-zero, zero-none, or-empty, or-without, and-pow, and-pow-apart, pow-within, without-apart, zero-without}
+use Rattle.masks.proofs.Sets.{none-or, none-zero, zero-none, or-without, and-pow, and-pow-apart, pow-within, without-apart, zero-without}
 use Rattle.literals.specs.declared.Lits.{Lits}
 use Rattle.literals.specs.Literal.{size, isPositive}
 use Rattle.literals.specs.Lits.{noLits, negatedLits, together, isOne}
@@ -25,15 +25,6 @@ use Rattle.step_laws.proofs.Formed.{neither}
 use Rattle.rules.specs.Desk.{decided, truths, decisions, satisfied, remnant}
 
 -- ---- unions
-
-none-or : (a b : ℕ) → none (bitOr a b) ≡ (none a && none b)
-none-or a b =
-    same-test
-    (λ t. let e = or-empty a b (zero-none (bitOr a b) t) in both (none-zero (e .0)) (none-zero (e .1)))
-    (λ t.
-    let x : a ≡ 0 = zero-none a (and-left (none a) (none b) t) in
-    let y : b ≡ 0 = zero-none b (and-right (none a) (none b) t) in
-    none-zero (rw (x, y)))
 
 or-and-right : (a b c : ℕ) → bitAnd (bitOr a b) c ≡ bitOr (bitAnd a c) (bitAnd b c)
 or-and-right a b c = has-ext (λ v. simp (has-and, has-or) (same3 (λ x y z. (x || y) && z) (λ x y z. x && z || y && z) tt (has a v) (has b v) (has c v)))

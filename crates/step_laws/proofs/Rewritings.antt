@@ -14,7 +14,7 @@ use Rattle.rules.specs.Decide.{entered}
 use Rattle.rules.specs.Rewrite.{mostNamed, stored, empties, given, lightest, reweighed, laid, rewritingEntry, rewriteStep}
 use Rattle.rules.specs.TakeBack.{lastPlace, lastKind, lastWeight, lastCount, lastNamed, lastFirst}
 use Rattle.step_laws.proofs.Formed.{Formed, head-inside}
-use Rattle.step_laws.proofs.Stores.{Distinct, row-same, length-reweighed, reweighed-out, length-laid, laid-out}
+use Rattle.step_laws.proofs.Stores.{Distinct, row-same, length-reweighed, length-laid, laid-out, laid-head, reweighed-head}
 use Rattle.step_laws.proofs.Entries.{entry-inside, entry-past, row-past-head, length-entered, entered-out, entered-head, entered-standing, entered-in}
 
 -- the named rows less w, and the new rows behind those in use
@@ -82,10 +82,10 @@ module _ (d : List ℕ) (w : ℕ) (named : List ℕ) (new : List Lits) where
   rows-out p h = laid-out (reweighed (λ x. x - w) (λ i. getD named i 0) d (length named)) (inUse d) w new p h
 
   pub rows-head : (p : ℕ) → p < headWords → getD (rowsAfter d w named new) p 0 ≡ getD d p 0
-  unfolding rowPlace
+  unfolding rowsAfter
   rows-head p h =
-      rows-out p (inl (omega arith))
-      ∙ reweighed-out (λ x. x - w) (λ i. getD named i 0) d (length named) p (λ i l e. omega arith)
+      laid-head (reweighed (λ x. x - w) (λ i. getD named i 0) d (length named)) (inUse d) w new p h
+      ∙ reweighed-head (λ x. x - w) (λ i. getD named i 0) d (length named) p h
 
 module _ (d : List ℕ) (kind w : ℕ) (named : List ℕ) (new : List Lits) (c : ℕ) (plan : Plan d w named new) where
   -- the desk but for its entry

@@ -1,14 +1,14 @@
 -- Any run of calls after an accepted load. A desk that calls have made is the load, or an accepted decision or rewriting on a desk that calls have made;
 -- taking back its last step gives the desk before it again, and a refused call the desk itself. So each call leads from a made desk to a made desk,
 -- and what a made desk is known by (well formed, clean, weights as on the table, the load followed by its standing steps) holds after every run.
-use Prim.Native.Nat.{ℕ, suc, _+_}
+use Prim.Native.Nat.{ℕ, suc, _+_, _≤_}
 use mathlib.Core.Path.{_≡_, refl, sym, ap, _∙_, subst₂}
 use mathlib.Core.Bool.{Bool, true, false, not}
 use mathlib.Core.List.{List, [], _∷_, _++_}
 use native.Mathlib.Numerals.{add-one}
 use native.Mathlib.Omega.{arith}
 use lib.Dec.{leb, ltb}
-use lib.ListN.{length, replicate, length-append}
+use lib.ListN.{getD, length, replicate, length-append}
 use lib.IntN.{ℤ}
 use Rattle.rules.specs.declared.Refusal.{Refusal}
 use Rattle.rules.specs.declared.Refusal.the-variants.{BadDesk, TooManySteps, BadLiteral, BadNaming, BadFit, DeskFull, NothingStands}
@@ -16,13 +16,16 @@ use Rattle.rules.specs.declared.Judged.{Judged}
 use Rattle.rules.specs.declared.Judged.the-variants.{Fine, Refused}
 use Rattle.rules.specs.Refusals.{refuse}
 use Rattle.rules.specs.Table.{weighs}
-use Rattle.rules.specs.Desk.{mostSteps, inUse, capacity, standing, wellFormed, loadWhy, loadStep, deskWeighs, keeps}
+use Rattle.rules.specs.Desk.{deskWords, mostSteps, inUse, capacity, standing, wellFormed, loadWhy, loadStep, deskWeighs, keeps}
 use Rattle.rules.specs.Decide.{badLiteral, decideWhy, decideStep}
 use Rattle.rules.specs.Rewrite.{stored, given, wellNamed, wellFitted, rewriteWhy, rewriteStep}
 use Rattle.rules.specs.TakeBack.{takeBackWhy, takeBackStep}
 use Rattle.rules.specs.Calls.{Call, decide, rewrite, takeBack, callWhy, callStep, unlessRefused, afterCall, afterCalls}
 use Rattle.step_laws.specs.Clean.{Clean}
+use Rattle.step_laws.specs.Framed.{Framed}
 use Rattle.step_laws.specs.Standing.{withoutLast, stands, standingFrom, standingCalls, AllFine, NeverTen}
+use Rattle.step_laws.proofs.Loads.{load-fine, loaded-capacity, loaded-past}
+use Rattle.step_laws.proofs.Frames.{framed-same, framed-then, decide-framed, rewrite-framed}
 use Rattle.step_laws.proofs.Steps.{load-formed, load-clean, load-weighs, load-rest, decide-undone, decide-standing, decide-formed, decide-clean, decide-weighs, decide-keeps, rewrite-undone, rewrite-standing, rewrite-formed, rewrite-clean, rewrite-weighs, rewrite-keeps}
 
 -- a desk that calls have made, with the steps that stand on it
@@ -59,6 +62,7 @@ pub record Known (start table d : List ℕ) (calls : List Call) : Type 0 where
   pub clean : Clean d
   pub weights : (reading : ℕ) → keeps d reading ≡ true → deskWeighs d reading ≡ weighs table reading
   pub replayed : d ≡ afterCalls start calls
+  pub framed : Framed start d
 
 one-more : (start d : List ℕ) (calls : List Call) (call : Call) → d ≡ afterCalls start calls → callWhy d call ≡ Fine → callStep d call ≡ afterCalls start (calls ++ (call ∷ []))
 one-more start d calls call e fine =
@@ -73,6 +77,7 @@ known start table k (deciding {d} {calls} m l fine) =
       clean = decide-clean d l fine (before .clean);
       weights = λ reading h. decide-weighs d l fine reading ∙ before .weights reading (decide-keeps d l fine reading h);
       replayed = one-more start d calls (decide l) (before .replayed) fine;
+      framed = framed-then (before .framed) (decide-framed d l fine);
     }
 known start table k (rewriting {d} {calls} m kind named fine) =
     let before = known start table k m in
@@ -83,6 +88,7 @@ known start table k (rewriting {d} {calls} m kind named fine) =
           let kept : keeps d reading ≡ true = sym (rewrite-keeps d kind named fine reading) ∙ h in
           rewrite-weighs d kind named fine reading kept ∙ before .weights reading kept;
       replayed = one-more start d calls (rewrite kind named) (before .replayed) fine;
+      framed = framed-then (before .framed) (rewrite-framed d kind named fine);
     }
 
 -- ---- on a well-formed desk, a decision or a rewriting is never refused with 10
@@ -215,6 +221,7 @@ module _ (n : ℕ) (table : List ℕ) (c : ℕ) (d : List ℕ) (fine : loadWhy n
         clean = load-clean n table c d fine;
         weights = λ reading h. load-weighs n table c d fine reading;
         replayed = refl;
+        framed = framed-same start;
       }
 
   pub made : Made start (afterCalls start calls) (standingCalls start calls)
@@ -252,3 +259,12 @@ module _ (n : ℕ) (table : List ℕ) (c : ℕ) (d : List ℕ) (fine : loadWhy n
 
   pub run-clean : Clean (afterCalls start calls)
   run-clean = result .clean
+
+  -- variables, capacity and rows loaded are the load's, and words past the desk were never touched
+  pub run-framed : Framed start (afterCalls start calls)
+  run-framed = result .framed
+
+  pub run-past : (p : ℕ) → deskWords c ≤ p → getD (afterCalls start calls) p 0 ≡ getD d p 0
+  run-past p h =
+      let ok = load-fine n table c d fine in
+      run-framed .past p (rw (loaded-capacity n table c d ok) h) ∙ loaded-past n table c d ok p h

@@ -1,15 +1,15 @@
 -- Sets of literals that stay sound: what is taken out of a sound one, its negation, two on variables apart, and one literal alone.
 -- And lists of rows given: those stored, those empty, and what a reading misses of them.
-use Prim.Native.Nat.{ℕ, _+_, _≤_}
+use Prim.Native.Nat.{ℕ, zero, suc, _+_, _≤_, _<_}
 use mathlib.Core.Path.{_≡_, refl, sym, ap, _∙_}
 use mathlib.Core.Logic.{_⊎_, inl, inr, ⊎-elim}
 use mathlib.Core.Bool.{Bool, true, false, not, _&&_}
 use mathlib.Core.List.{List, [], _∷_, _++_}
-use native.Mathlib.Nat.{lt-of-lt-of-le}
+use native.Mathlib.Nat.{lt-of-lt-of-le, le-of-suc-le-suc}
 use native.Mathlib.Omega.{arith}
 use borrow.Author.Tests.{eqb-true}
 use lib.Bits.{bitAnd, bitOr, and-comm, or-lt, or-comm}
-use lib.ListN.{length}
+use lib.ListN.{length, getD}
 use lib.Pow.{pow-pos, pow-mono}
 use Rattle.masks.specs.Masks.{has, none, without, count}
 use Rattle.masks.proofs.Choice.{cases, clash, not-so, and-left, and-right, or-cases}
@@ -78,6 +78,7 @@ together-sound {n} {a} {b} s t e =
   where
     in-either : (x y v : ℕ) → has (bitOr x y) v ≡ true → (has x v ≡ true) ⊎ (has y v ≡ true)
     in-either x y v h = or-cases (has x v) (has y v) (sym (has-or x y v) ∙ h)
+
     left : (x y v : ℕ) → has x v ≡ true → has (bitOr x y) v ≡ true
     left x y v h = has-or x y v ∙ rw h
 
@@ -136,6 +137,11 @@ shows-facts r l m e =
 abbrev pub Each : (Lits → Type 0) → List Lits → Type 0
 Each P [] = Unit
 Each P (l ∷ ls) = P l × Each P ls
+
+pub each-at : (P : Lits → Type 0) (ls : List Lits) → Each P ls → (j : ℕ) → j < length ls → P (getD ls j noLits)
+each-at P [] e j h = absurd (omega arith)
+each-at P (l ∷ ls) e zero h = e .0
+each-at P (l ∷ ls) e (suc j) h = each-at P ls (e .1) j (le-of-suc-le-suc h)
 
 pub each-append : (P : Lits → Type 0) (xs ys : List Lits) → Each P xs → Each P ys → Each P (xs ++ ys)
 each-append P [] ys a b = b

@@ -5,7 +5,7 @@ use Prim.Native.Nat.{ℕ, zero, suc, _+_, _*_, _≤_, _<_}
 use mathlib.Core.Path.{_≡_, refl, ap, _∙_}
 use mathlib.Core.Logic.{_⊎_, inl, inr, ⊎-elim}
 use mathlib.Core.List.{List, [], _∷_}
-use native.Mathlib.Nat.{le-step, le-refl, eq-or-lt-of-le, le-of-suc-le-suc}
+use native.Mathlib.Nat.{le-step, le-refl, le-trans, eq-or-lt-of-le, le-of-suc-le-suc, add-zero}
 use native.Mathlib.Omega.{arith}
 use lib.ListN.{length, getD, set, length-set}
 use lib.Seq.{sets, length-sets, getD-set-same, getD-set-other}
@@ -13,10 +13,12 @@ use Rattle.masks.proofs.Choice.{lt-or-le, eq-or-ne}
 use Rattle.masks.proofs.Words.{sets-before, sets-out}
 use Rattle.masks.proofs.Sums.{downwards, upwards}
 use Rattle.literals.specs.declared.Lits.{Lits}
+use Rattle.literals.specs.Lits.{noLits}
 use Rattle.rules.specs.declared.Row.{Row}
 use Rattle.rules.specs.Table.{rowIn}
 use Rattle.rules.specs.Desk.{headWords, rowPlace, rowOn, setRow, setWeight}
 use Rattle.rules.specs.Rewrite.{reweighed, laid}
+use Rattle.step_laws.proofs.Formed.{place-mono}
 
 -- ---- a row is its words
 
@@ -55,9 +57,17 @@ module _ (d : List ℕ) (i : ℕ) where
       let c : getD (set d (8 + 3 * i + 2) w) (8 + 3 * i + 2) 0 ≡ w = getD-set-same d (8 + 3 * i + 2) w 0 h in
       λ t. record { lits = record { positive = a t; negative = b t }; weight = c t }
 
+  pub set-weight-out : (w p : ℕ) → (p ≡ rowPlace i + 2 → ⊥) → getD (setWeight d i w) p 0 ≡ getD d p 0
+  unfolding setWeight
+  set-weight-out w p n = getD-set-other d (rowPlace i + 2) p w 0 n
+
+  pub set-weight-head : (w p : ℕ) → p < headWords → getD (setWeight d i w) p 0 ≡ getD d p 0
+  unfolding rowPlace
+  set-weight-head w p h = set-weight-out w p (λ e. omega arith)
+
   pub set-weight-other : (w j : ℕ) → (j ≡ i → ⊥) → rowOn (setWeight d i w) j ≡ rowOn d j
-  unfolding rowPlace setWeight
-  set-weight-other w j n = row-same d (set d (rowPlace i + 2) w) j (λ q l m. getD-set-other d (rowPlace i + 2) q w 0 (λ e. n (omega arith)))
+  unfolding rowPlace
+  set-weight-other w j n = row-same d (setWeight d i w) j (λ q l m. set-weight-out w q (λ e. n (omega arith)))
 
   pub set-row-same : (l : Lits) (w : ℕ) → rowPlace (suc i) ≤ length d → rowOn (setRow d i l w) i ≡ record { lits = l; weight = w }
   unfolding rowOn rowIn rowPlace setRow
@@ -77,6 +87,10 @@ module _ (d : List ℕ) (i : ℕ) where
   pub set-row-out : (l : Lits) (w p : ℕ) → (p < rowPlace i) ⊎ (rowPlace (suc i) ≤ p) → getD (setRow d i l w) p 0 ≡ getD d p 0
   unfolding setRow rowPlace
   set-row-out l w p h = sets-out d (rowPlace i) (l .positive ∷ l .negative ∷ w ∷ []) p 0 (⊎-elim inl (λ m. inr (omega arith)) h)
+
+  pub set-row-head : (l : Lits) (w p : ℕ) → p < headWords → getD (setRow d i l w) p 0 ≡ getD d p 0
+  unfolding rowPlace
+  set-row-head l w p h = set-row-out l w p (inl (omega arith))
 
   pub set-row-other : (l : Lits) (w j : ℕ) → (j ≡ i → ⊥) → rowOn (setRow d i l w) j ≡ rowOn d j
   unfolding rowPlace
@@ -143,6 +157,15 @@ module _ (new : ℕ → ℕ) (row : ℕ → ℕ) (d : List ℕ) where
       ∙ reweighed-at n (λ a b x y. apart a b x (le-step y)) i m h)
       (eq-or-lt-of-le (le-of-suc-le-suc l))
 
+  pub reweighed-head : (n p : ℕ) → p < headWords → getD (reweighed new row d n) p 0 ≡ getD d p 0
+  unfolding rowPlace
+  reweighed-head n p h = reweighed-out n p (λ i l e. omega arith)
+
+  -- a row that is not named stays
+  pub reweighed-other : (n j : ℕ) → ((i : ℕ) → i < n → j ≡ row i → ⊥) → rowOn (reweighed new row d n) j ≡ rowOn d j
+  unfolding rowPlace
+  reweighed-other n j h = row-same d (reweighed new row d n) j (λ p a b. reweighed-out n p (λ i l e. h i l (omega arith)))
+
   -- literals stay
   pub reweighed-lits : (n j : ℕ) → rowOn (reweighed new row d n) j .lits ≡ rowOn d j .lits
   unfolding rowOn rowIn rowPlace
@@ -171,6 +194,22 @@ laid-out d i w (l ∷ ls) p h =
     laid-out (setRow d i l w) (suc i) w ls p (⊎-elim (λ m. inl (omega arith)) (λ m. inr (omega arith)) h)
     ∙ set-row-out d i l w p (⊎-elim inl (λ m. inr (omega arith)) h)
 
+pub laid-head : (d : List ℕ) (i w : ℕ) (ls : List Lits) (p : ℕ) → p < headWords → getD (laid d i w ls) p 0 ≡ getD d p 0
+unfolding rowPlace
+laid-head d i w ls p h = laid-out d i w ls p (inl (omega arith))
+
 pub laid-before : (d : List ℕ) (i w : ℕ) (ls : List Lits) (j : ℕ) → j < i → rowOn (laid d i w ls) j ≡ rowOn d j
 unfolding rowPlace
 laid-before d i w ls j h = row-same d (laid d i w ls) j (λ p a b. laid-out d i w ls p (inl (omega arith)))
+
+-- the rows laid, in order
+pub laid-at : (d : List ℕ) (i w : ℕ) (ls : List Lits) → rowPlace (i + length ls) ≤ length d → (j : ℕ) → j < length ls
+    → rowOn (laid d i w ls) (i + j) ≡ record { lits = getD ls j noLits; weight = w }
+unfolding laid
+laid-at d i w [] h j m = absurd (omega arith)
+laid-at d i w (l ∷ ls) h zero m =
+    rw (add-zero i) (laid-before (setRow d i l w) (suc i) w ls i (le-refl (suc i)) ∙ set-row-same d i l w (le-trans (place-mono (omega arith)) h))
+laid-at d i w (l ∷ ls) h (suc j) m =
+    let e : i + suc j ≡ suc i + j = omega arith in
+    let n : i + suc (length ls) ≡ suc i + length ls = omega arith in
+    rw e (laid-at (setRow d i l w) (suc i) w ls (rw (length-set-row d i l w, ← n) h) j (le-of-suc-le-suc m))

@@ -22,10 +22,12 @@ use Rattle.rules.specs.Desk.{headWords, inUse, capacity, standing, conceded, lo
 use Rattle.rules.specs.Rewrite.{fewest, fewerAdded, countFits, distinct}
 use Rattle.rules.specs.TakeBack.{lastKind, lastVariable, lastWeight, lastCount, lastNamed, lastFirst, mergedEmpty, lastConceded, undoDecision, undoRewriting, takeBackStep, badDecision, badRewriting, badLast, takeBackWhy}
 use Rattle.step_laws.specs.Clean.{Clean}
+use Rattle.step_laws.specs.Framed.{Framed}
 use Rattle.step_laws.proofs.Formed.{neither, head-inside, Formed, formed, well}
 use Rattle.step_laws.proofs.Verdicts.{past}
 use Rattle.step_laws.proofs.ByKind.{by-kind, counted}
 use Rattle.step_laws.proofs.Undoing.{unset, unset-out, emptied, emptied-use, emptied-head}
+use Rattle.step_laws.proofs.Frames.{framed-then, withdrawn-framed, unset-framed, emptied-framed}
 use Rattle.step_laws.proofs.Freed.{withdrawn-weight, withdrawn-formed, withdrawn-clean, unset-formed, unset-clean, freed-formed, freed-clean}
 
 -- an accepted taking back: the desk is well formed, a step stands, and the last entry is not bad
@@ -87,7 +89,7 @@ entry-fine d low high e =
 
 module _ (d : List ℕ) (clean : Clean d) (fine : takeBackWhy d ≡ Fine) where
   abbrev Kept : List ℕ → Type 0
-  Kept e = (wellFormed e ≡ true) × Clean e
+  Kept e = (wellFormed e ≡ true) × Clean e × Framed d e
 
   decision-kept : Taken d → Kept (undoDecision d)
   unfolding undoDecision
@@ -95,7 +97,7 @@ module _ (d : List ℕ) (clean : Clean d) (fine : takeBackWhy d ≡ Fine) where
       let v : ℕ = single (lastVariable d - 1) in
       let e : List ℕ = unset d v in
       let some : 1 ≤ standing e = rw (unset-out d v 3 (λ q. omega arith) (λ q. omega arith)) (t .some) in
-      (well (withdrawn-formed e (unset-formed d (t .desk) v) some), withdrawn-clean e (unset-formed d (t .desk) v) some (unset-clean d (t .desk) v clean))
+      (well (withdrawn-formed e (unset-formed d (t .desk) v) some), withdrawn-clean e (unset-formed d (t .desk) v) some (unset-clean d (t .desk) v clean), framed-then (unset-framed d v) (withdrawn-framed e (unset-formed d (t .desk) v) some))
 
   rewriting-kept : Taken d → Entered d → Kept (undoRewriting d)
   unfolding undoRewriting weightFits
@@ -110,8 +112,11 @@ module _ (d : List ℕ) (clean : Clean d) (fine : takeBackWhy d ≡ Fine) where
       let rows : inUse e ≡ lastFirst d = emptied-use d w (lastNamed d) (lastCount d) (lastFirst d) (inUse d - lastFirst d) c (head-inside f) in
       let light : weightOn e ≤ mostWeight =
       rw (withdrawn-weight e (omega (arith, f .fitting, n .fits))) at (leb-true (weightOn (undoRewriting d)) mostWeight (n .light)) in
-      let g : Formed e = freed-formed d f w (lastNamed d) (lastCount d) (lastFirst d) c (n .loads) (n .fits) (n .below) light in
-      (well (withdrawn-formed e g some), withdrawn-clean e g some (freed-clean d f w (lastNamed d) (lastCount d) (lastFirst d) c (n .loads) (n .fits) (n .below) clean))
+      let g : Formed e = freed-formed d f w (lastNamed d) (lastCount d) (lastFirst d) c (n .loads) (n .fits) (n .below) light in (
+        well (withdrawn-formed e g some),
+        withdrawn-clean e g some (freed-clean d f w (lastNamed d) (lastCount d) (lastFirst d) c (n .loads) (n .fits) (n .below) clean),
+        framed-then (emptied-framed d f w (lastNamed d) (lastCount d) (lastFirst d) c (n .fits) (n .below)) (withdrawn-framed e g some),
+      )
 
   kept : Kept (takeBackStep d)
   unfolding takeBackStep badLast
@@ -130,3 +135,6 @@ module _ (d : List ℕ) (clean : Clean d) (fine : takeBackWhy d ≡ Fine) where
 
   pub take-back-clean : Clean (takeBackStep d)
   take-back-clean = kept .1
+
+  pub take-back-framed : Framed d (takeBackStep d)
+  take-back-framed = kept .2

@@ -14,7 +14,7 @@ use Rattle.rules.specs.declared.Row.{Row}
 use Rattle.rules.specs.Desk.{headWords, inUse, conceded, decided, truths, rowPlace, rowOn}
 use Rattle.rules.specs.Rewrite.{reweighed}
 use Rattle.step_laws.proofs.Formed.{place-mono}
-use Rattle.step_laws.proofs.Stores.{row-same, row-head, length-reweighed, reweighed-out, reweighed-lits}
+use Rattle.step_laws.proofs.Stores.{row-same, row-head, length-reweighed, reweighed-head, reweighed-lits}
 
 -- ---- a decision cleared
 
@@ -86,7 +86,7 @@ module _ (d : List ℕ) (w : ℕ) (row : ℕ → ℕ) (k first m c : ℕ) where
   -- the other words of the head
   pub emptied-head : (p : ℕ) → (p < headWords) × (p ≡ 1 → ⊥) × (p ≡ 4 → ⊥) → getD emptied p 0 ≡ getD d p 0
   unfolding rowPlace
-  emptied-head p o = emptied-below p (o .1) (o .2) (omega arith) ∙ reweighed-out (λ x. x + w) row d k p (λ i l e. omega arith)
+  emptied-head p o = emptied-below p (o .1) (o .2) (omega arith) ∙ reweighed-head (λ x. x + w) row d k p (o .0)
 
   pub emptied-lits : (i : ℕ) → i < first → rowOn emptied i .lits ≡ rowOn d i .lits
   emptied-lits i h =

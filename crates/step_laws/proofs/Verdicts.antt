@@ -15,29 +15,16 @@ use Rattle.masks.proofs.Choice.{and-left, and-right}
 use Rattle.masks.proofs.Sums.{every-at}
 use Rattle.literals.specs.Literal.{size, isLiteral}
 use Rattle.rules.specs.declared.Row.{Row}
-use Rattle.rules.specs.declared.Refusal.{Refusal}
 use Rattle.rules.specs.declared.Refusal.the-variants.{BadDesk, TooManySteps, BadLiteral, BadNaming, BadFit, DeskFull}
 use Rattle.rules.specs.declared.Judged.{Judged}
-use Rattle.rules.specs.declared.Judged.the-variants.{Fine, Refused}
-use Rattle.rules.specs.Refusals.{refuse, inOrder}
+use Rattle.rules.specs.declared.Judged.the-variants.{Fine}
+use Rattle.rules.specs.Refusals.{refuse}
 use Rattle.rules.specs.Desk.{variables, inUse, capacity, standing, decided, mostSteps, wellFormed, decisions, satisfied, rowOn, spent}
 use Rattle.rules.specs.Decide.{badLiteral, decideWhy}
 use Rattle.rules.specs.Rewrite.{countFits, distinct, wellNamed, remnantOf, fits, stored, given, wellFitted, rewriteWhy}
+pub use Rattle.rules.proofs.Judging.{refuse-fine as past, order-fine as past-both}
 use Rattle.step_laws.proofs.Formed.{Formed, formed, neither}
 use Rattle.step_laws.proofs.Stores.{Distinct}
-
--- ---- a refusal, or what comes after it
-
-fine-not-refused : (r : Refusal) → Refused r ≡ Fine → ⊥
-fine-not-refused r e = let z : _≡_ {A = ℕ} 0 1 = cc in omega arith
-
-pub past : (b : Bool) (r : Refusal) (after : Judged) → refuse b r after ≡ Fine → (b ≡ false) × (after ≡ Fine)
-past true r after e = absurd (fine-not-refused r e)
-past false r after e = (refl, e)
-
-pub past-both : (a b : Judged) → inOrder a b ≡ Fine → (a ≡ Fine) × (b ≡ Fine)
-past-both Fine b e = (refl, e)
-past-both (Refused r) b e = absurd (fine-not-refused r e)
 
 -- ---- an accepted decision
 

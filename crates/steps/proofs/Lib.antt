@@ -1,1 +1,5 @@
+pub mod Bad
 pub mod Deciding
+pub mod Lasts
+pub mod Regained
+pub mod Undo

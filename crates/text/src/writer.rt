@@ -58,7 +58,7 @@ pub fn write(variables: u64, budget: u32, table: &[u64], out: &mut [u8]) -> Writ
     ensures answer { λ r. ⌜ r ≡ written variables budget (now (table .entry)) (now (out .entry)) ⌝ }
     ensures bytes { λ _. ⌜ now (out .exit) ≡ writeOut variables budget (now (table .entry)) (now (out .entry)) ⌝ }
 {
-    match tables::table_why(variables, table) {
+    match desk::table_why(variables, table) {
         Judged::Refused(why) => Written::Refused(why),
         Judged::Fine => {
             let most = budget as u64;
