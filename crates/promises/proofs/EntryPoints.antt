@@ -11,6 +11,7 @@ use Rattle.desk.proofs.load.Met.{met as load-met}
 use Rattle.desk.proofs.weight_of.Met.{met as weight-met}
 use Rattle.steps.proofs.decide.Met.{met as decide-met}
 use Rattle.rewrites.proofs.rewrite.Met.{met as rewrite-met}
+use Rattle.steps.proofs.take_back.Met.{met as take-back-met}
 use Rattle.bound.proofs.bound.Met.{met as bound-met}
 use Rattle.walk.proofs.search.Met.{met as search-met}
 use Rattle.text.proofs.read.Met.{met as read-met}
@@ -25,6 +26,7 @@ met =
       weight = weight-met;
       decide = decide-met;
       rewrite = rewrite-met;
+      takeBack = take-back-met;
       bound = bound-met;
       search = search-met;
       read = read-met;
@@ -39,6 +41,7 @@ asked 𝓤 H A memory run =
       weight = λ κs args. (tt, refl);
       decide = λ κs args. (tt, refl);
       rewrite = λ κs args. (tt, refl);
+      takeBack = λ κs args. (tt, refl);
       bound = λ κs args. (tt, refl);
       search = λ κs args. (tt, refl);
       read = λ κs args. (tt, refl);

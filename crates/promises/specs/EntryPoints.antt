@@ -20,6 +20,8 @@ use Rattle.desk.proofs.weight_of as weight
 use Rattle.desk.proofs.weight_of.Statement.{statement as weight-statement}
 use Rattle.steps.proofs.decide as decide
 use Rattle.steps.proofs.decide.Statement.{statement as decide-statement}
+use Rattle.steps.proofs.take_back as takeBack
+use Rattle.steps.proofs.take_back.Statement.{statement as take-back-statement}
 use Rattle.rewrites.proofs.rewrite as rewrite
 use Rattle.rewrites.proofs.rewrite.Statement.{statement as rewrite-statement}
 use Rattle.bound.proofs.bound as bound
@@ -39,6 +41,7 @@ pub record Met : Type 2 where
   pub weight : {M : Type 1} → weight-statement M
   pub decide : {M : Type 1} → decide-statement M
   pub rewrite : {M : Type 1} → rewrite-statement M
+  pub takeBack : {M : Type 1} → take-back-statement M
   pub bound : {M : Type 1} → bound-statement M
   pub search : {M : Type 1} → search-statement M
   pub read : {M : Type 1} → read-statement M
@@ -54,6 +57,7 @@ pub record NothingAsked {M : Type 1} (𝓤 : URA M) (H : Heap 𝓤) (A : Atoms �
   pub weight : AsksNothing 𝓤 weight.signature (weight.spec 𝓤 H A memory run)
   pub decide : AsksNothing 𝓤 decide.signature (decide.spec 𝓤 H A memory run)
   pub rewrite : AsksNothing 𝓤 rewrite.signature (rewrite.spec 𝓤 H A memory run)
+  pub takeBack : AsksNothing 𝓤 takeBack.signature (takeBack.spec 𝓤 H A memory run)
   pub bound : AsksNothing 𝓤 bound.signature (bound.spec 𝓤 H A memory run)
   pub search : AsksNothing 𝓤 search.signature (search.spec 𝓤 H A memory run)
   pub read : AsksNothing 𝓤 read.signature (read.spec 𝓤 H A memory run)
