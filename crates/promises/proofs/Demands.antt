@@ -247,6 +247,7 @@ pub determined : Determined
 determined =
     record {
       load = λ n table c d. coincide (loadWhy n table c d) (loadDesk n table c d);
+      wellFormed = λ d. coincide (wellFormed d) d;
       weight = λ n table full. coincide _ table;
       decide = λ d literal. coincide (decideWhy d literal) (decideDesk d literal);
       rewrite = λ d kind named. coincide (rewriteWhy d kind named) (rewriteDesk d kind named);
@@ -256,4 +257,5 @@ determined =
       read = λ text table. coincide (textRead text (length table)) (readTable text table);
       write = λ n budget table out. coincide (written n budget table out) (writeOut n budget table out);
       answer = λ input output. coincide (answered input output) (answerOut input output);
+      each = λ says after. coincide says after;
     }

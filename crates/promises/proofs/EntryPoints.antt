@@ -8,6 +8,7 @@ use prog.Memory.{Memory}
 use prog.Routine.{Routine}
 use prog.Wp.{Heap}
 use Rattle.desk.proofs.load.Met.{met as load-met}
+use Rattle.desk.proofs.well_formed.Met.{met as well-formed-met}
 use Rattle.desk.proofs.weight_of.Met.{met as weight-met}
 use Rattle.steps.proofs.decide.Met.{met as decide-met}
 use Rattle.rewrites.proofs.rewrite.Met.{met as rewrite-met}
@@ -23,6 +24,7 @@ pub met : Met
 met =
     record {
       load = load-met;
+      wellFormed = well-formed-met;
       weight = weight-met;
       decide = decide-met;
       rewrite = rewrite-met;
@@ -38,6 +40,7 @@ pub asked : {M : Type 1} (𝓤 : URA M) (H : Heap 𝓤) (A : Atoms 𝓤) (memory
 asked 𝓤 H A memory run =
     record {
       load = λ κs args. (tt, refl);
+      wellFormed = λ κs args. (tt, refl);
       weight = λ κs args. (tt, refl);
       decide = λ κs args. (tt, refl);
       rewrite = λ κs args. (tt, refl);

@@ -29,7 +29,7 @@ use Rattle.rules.specs.declared.Searched.{Searched}
 use Rattle.rules.specs.declared.TextRead.{TextRead}
 use Rattle.rules.specs.declared.Written.{Written}
 use Rattle.rules.specs.Table.{rowCount, weighs, tableWhy, weighed}
-use Rattle.rules.specs.Desk.{variables, inUse, standing, conceded, decided, deskWords, rowOn, loadWhy, loadDesk, decisions, deskWeighs, keeps}
+use Rattle.rules.specs.Desk.{variables, inUse, standing, conceded, decided, deskWords, rowOn, wellFormed, loadWhy, loadDesk, decisions, deskWeighs, keeps}
 use Rattle.rules.specs.Decide.{decideWhy, decideDesk}
 use Rattle.rules.specs.Rewrite.{remnantOf, given, stored, empties, lightest, rewriteWhy, rewriteDesk}
 use Rattle.rules.specs.TakeBack.{takeBackWhy, takeBackDesk}
@@ -187,9 +187,11 @@ pub record Permits {A : Type 0} (says : A) (after : List ℕ) (o : Outcome A) : 
 abbrev pub OneOutcome : {A : Type 0} → A → List ℕ → Type 0
 OneOutcome {A} says after = (one other : Outcome A) → Permits says after one → Permits says after other → one ≡ other
 
--- The contract of each public function, as its source has it. What is lent only to be read stays as it is found.
-pub record Determined : Type 0 where
+-- The contract of each entry point, as its source has it. What is lent only to be read stays as it is found. `each` is for the other public functions:
+-- their contracts are of this form too, whatever their definition says.
+pub record Determined : Type 1 where
   pub load : (n : ℕ) (table : List ℕ) (c : ℕ) (d : List ℕ) → OneOutcome (loadWhy n table c d) (loadDesk n table c d)
+  pub wellFormed : (d : List ℕ) → OneOutcome (wellFormed d) d
   pub weight : (n : ℕ) (table : List ℕ) (full : ℕ) → OneOutcome (weighed n table full) table
   pub decide : (d : List ℕ) (literal : ℤ) → OneOutcome (decideWhy d literal) (decideDesk d literal)
   pub rewrite : (d : List ℕ) (kind : ℕ) (named : List ℕ) → OneOutcome (rewriteWhy d kind named) (rewriteDesk d kind named)
@@ -199,3 +201,4 @@ pub record Determined : Type 0 where
   pub read : (text table : List ℕ) → OneOutcome (textRead text (length table)) (readTable text table)
   pub write : (n budget : ℕ) (table out : List ℕ) → OneOutcome (written n budget table out) (writeOut n budget table out)
   pub answer : (input output : List ℕ) → OneOutcome (answered input output) (answerOut input output)
+  pub each : {A : Type 0} (says : A) (after : List ℕ) → OneOutcome says after

@@ -16,6 +16,8 @@ use prog.Routine.{Routine}
 use prog.Wp.{Heap}
 use Rattle.desk.proofs.load as load
 use Rattle.desk.proofs.load.Statement.{statement as load-statement}
+use Rattle.desk.proofs.well_formed as wellFormed
+use Rattle.desk.proofs.well_formed.Statement.{statement as well-formed-statement}
 use Rattle.desk.proofs.weight_of as weight
 use Rattle.desk.proofs.weight_of.Statement.{statement as weight-statement}
 use Rattle.steps.proofs.decide as decide
@@ -31,13 +33,14 @@ use Rattle.walk.proofs.search.Statement.{statement as search-statement}
 use Rattle.text.proofs.read as read
 use Rattle.text.proofs.read.Statement.{statement as read-statement}
 use Rattle.text.proofs.write as write
+use Rattle.text.proofs.write.Statement.{statement as write-statement}
 use Rattle.answer.proofs.answer as answer
 use Rattle.answer.proofs.answer.Statement.{statement as answer-statement}
-use Rattle.text.proofs.write.Statement.{statement as write-statement}
 
 -- each entry point meets its contract
 pub record Met : Type 2 where
   pub load : {M : Type 1} → load-statement M
+  pub wellFormed : {M : Type 1} → well-formed-statement M
   pub weight : {M : Type 1} → weight-statement M
   pub decide : {M : Type 1} → decide-statement M
   pub rewrite : {M : Type 1} → rewrite-statement M
@@ -54,6 +57,7 @@ AsksNothing 𝓤 S c = (κs : Lfts (S .lifetimes)) (args : Args S κs) → (g : 
 
 pub record NothingAsked {M : Type 1} (𝓤 : URA M) (H : Heap 𝓤) (A : Atoms 𝓤) (memory : Memory → SProp 𝓤) (run : Routine → Fun 𝓤) : Type 2 where
   pub load : AsksNothing 𝓤 load.signature (load.spec 𝓤 H A memory run)
+  pub wellFormed : AsksNothing 𝓤 wellFormed.signature (wellFormed.spec 𝓤 H A memory run)
   pub weight : AsksNothing 𝓤 weight.signature (weight.spec 𝓤 H A memory run)
   pub decide : AsksNothing 𝓤 decide.signature (decide.spec 𝓤 H A memory run)
   pub rewrite : AsksNothing 𝓤 rewrite.signature (rewrite.spec 𝓤 H A memory run)
