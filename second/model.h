@@ -108,5 +108,6 @@ struct refusal read_text(const unsigned char *text, size_t length, struct lent o
 struct refusal write_text(struct table t, uint32_t budget, char *out, size_t room, size_t *length);
 /* The program: the answer to the input, at most MOST_ANSWER bytes; the result is its length. */
 size_t program_answer(const unsigned char *input, size_t length, char *out);
+struct refusal answer_text(const unsigned char *input, size_t length, char *out, size_t room, size_t *written);
 
 #endif

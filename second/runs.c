@@ -362,6 +362,7 @@ static void run_texts(struct run *r)
         emit_text(r, &l);
         word rows = l.count > 3 ? (word)(l.count - 3) / 2 : 0, fill = odd_word(c);
         emit(r, "read %" PRIu64 " %" PRIu64, one_in(c, 4) ? draw(c) % 40 : ROW_WORDS * rows + draw(c) % 4, fill);
+        emit(r, "answer %" PRIu64 " 85", one_in(c, 4) ? draw(c) % 60 : between(c, 60, 900));
     }
 }
 
@@ -386,6 +387,7 @@ static int generate_runs(word seed, int count, const char *dir)
         r.bench = new_bench();
         if (ledger) run_ledger(&r);
         else run_families[i % RUN_FAMILIES].make(&r);
+        emit(&r, "words 0 %" PRIu64, r.bench.lent_count);
         end_bench(&r.bench);
         fclose(r.out);
     }

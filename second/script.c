@@ -21,6 +21,7 @@
      weight VARS READING   of the table
      read ROOM FILL        the text into ROOM words, each FILL before
      write VARS BUDGET ROOM FILL   the table into ROOM bytes, each FILL (0 to 255) before
+     answer ROOM FILL      the program's answer to the text into ROOM bytes, each FILL before
      words FROM TO         prints `words` and the lent words FROM to TO - 1, and no checksum
 
    A line printed is the answer and then a checksum:
@@ -29,11 +30,11 @@
      WEIGHT CHECK                          bound, weight
      done WEIGHT READING NODES CHECK       search; or stopped; weight and reading may be `none`
      ok VARS BUDGET ROWS CHECK             read
-     ok LENGTH CHECK                       write
+     ok LENGTH CHECK                       write, answer
      refused NUMBER PLACE CHECK            any of them
    The checksum is over all the words lent, those out of reach and past the desk too; for read over its ROOM words, for
-   write over its ROOM bytes. It starts at 14695981039346656037; each word (or byte) in turn is xored in and the result
-   multiplied by 1099511628211, modulo 2^64. */
+   write and answer over their ROOM bytes. It starts at 14695981039346656037; each word (or byte)
+   in turn is xored in, the result multiplied by 1099511628211, modulo 2^64, and its upper half xored into its lower. */
 
 enum { MOST_LENT = 1000000 };
 
@@ -58,6 +59,26 @@ static void *room_for(size_t bytes)
         exit(2);
     }
     return p;
+}
+
+/* All bytes of a stream, with a 0 behind them. */
+static char *read_all(FILE *in, size_t *length)
+{
+    size_t room = 1 << 16;
+    char *bytes = room_for(room);
+    *length = 0;
+    for (;;) {
+        size_t got = fread(bytes + *length, 1, room - 1 - *length, in);
+        *length += got;
+        if (got == 0) break;
+        if (*length == room - 1) {
+            room *= 2;
+            bytes = realloc(bytes, room);
+            if (bytes == NULL) exit(2);
+        }
+    }
+    bytes[*length] = 0;
+    return bytes;
 }
 
 static bool at_end(struct line *l)
@@ -102,7 +123,11 @@ static word *rest_of(struct line *l, word *count)
 }
 
 static word check_start(void) { return 14695981039346656037u; }
-static word check_more(word check, word value) { return (check ^ value) * 1099511628211u; }
+static word check_more(word check, word value)
+{
+    check = (check ^ value) * 1099511628211u;
+    return check ^ check >> 32;
+}
 
 static word check_words(const word *words, word count)
 {
@@ -245,24 +270,33 @@ static void call_read(struct bench *b, struct line *l, FILE *out)
     free(words);
 }
 
-static void call_write(struct bench *b, struct line *l, FILE *out)
+/* The call of write, or of answer, into bytes that are filled before. */
+static void show_bytes(struct bench *b, word variables, uint32_t budget, bool answer, word room, word fill, FILE *out)
 {
-    word variables = next_number(l), budget = next_number(l), room = next_number(l), fill = next_number(l);
     size_t length = 0;
-    char text[40];
-    if (l->broken || room > MOST_LENT || budget > MOST_BUDGET) {
-        l->broken = true;
-        return;
-    }
-    char *bytes = room_for(room);
+    char text[40], *bytes = room_for(room);
     memset(bytes, (int)fill, room);
-    struct table t = {variables, b->table, b->table_count};
-    struct refusal no = write_text(t, (uint32_t)budget, bytes, room, &length);
+    struct refusal no = answer ? answer_text(b->text, b->text_length, bytes, room, &length)
+                               : write_text((struct table){variables, b->table, b->table_count}, budget, bytes, room, &length);
     word check = check_start();
     for (word i = 0; i < room; i++) check = check_more(check, (unsigned char)bytes[i]);
     snprintf(text, sizeof text, "ok %zu", length);
     show_outcome(out, no, text, check);
     free(bytes);
+}
+
+static void call_write(struct bench *b, struct line *l, FILE *out)
+{
+    word variables = next_number(l), budget = next_number(l), room = next_number(l), fill = next_number(l);
+    if (room > MOST_LENT || budget > MOST_BUDGET) l->broken = true;
+    if (!l->broken) show_bytes(b, variables, (uint32_t)budget, false, room, fill, out);
+}
+
+static void call_answer(struct bench *b, struct line *l, FILE *out)
+{
+    word room = next_number(l), fill = next_number(l);
+    if (room > MOST_LENT) l->broken = true;
+    if (!l->broken) show_bytes(b, 0, 0, true, room, fill, out);
 }
 
 static void call_words(struct bench *b, struct line *l, FILE *out)
@@ -306,6 +340,8 @@ static bool run_call(struct bench *b, const char *name, struct line *l, FILE *ou
         call_read(b, l, out);
     } else if (strcmp(name, "write") == 0) {
         call_write(b, l, out);
+    } else if (strcmp(name, "answer") == 0) {
+        call_answer(b, l, out);
     } else if (strcmp(name, "words") == 0) {
         call_words(b, l, out);
     } else {

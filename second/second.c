@@ -6,6 +6,7 @@
      second generate runs SEED COUNT DIR       COUNT scripts, DIR/00000-KIND.run and on
      second selftest                           checks of the model against document 01 and against enumeration
      second vectors FILE                       the worked examples of the source documents
+     second scripts FILE DIR                   the calls of each of them, DIR/00000-vector.run and on
 
    Compile: cc -O2 -std=c11 -Wall -Wextra -o second second.c model.c
    The other parts are included below, so that these two files are all that is compiled. */
@@ -23,26 +24,6 @@
 #include "runs.c"
 #include "selftest.c"
 #include "vectors.c"
-
-/* All bytes of a stream, with a 0 behind them. */
-static char *read_all(FILE *in, size_t *length)
-{
-    size_t room = 1 << 16;
-    char *bytes = room_for(room);
-    *length = 0;
-    for (;;) {
-        size_t got = fread(bytes + *length, 1, room - 1 - *length, in);
-        *length += got;
-        if (got == 0) break;
-        if (*length == room - 1) {
-            room *= 2;
-            bytes = realloc(bytes, room);
-            if (bytes == NULL) exit(2);
-        }
-    }
-    bytes[*length] = 0;
-    return bytes;
-}
 
 static int run_answer(void)
 {
@@ -73,14 +54,15 @@ static int run_generate(char **words)
     return 2;
 }
 
-static int run_vectors(const char *name)
+/* Checks the vectors of a file or, where there is a folder for them, writes their scripts. */
+static int run_vectors(const char *name, const char *dir)
 {
     size_t length;
     FILE *in = fopen(name, "rb");
     if (in == NULL) return 2;
     char *text = read_all(in, &length);
     fclose(in);
-    int result = check_vectors(text);
+    int result = dir == NULL ? check_vectors(text) : write_scripts(text, dir);
     free(text);
     return result;
 }
@@ -91,7 +73,8 @@ int main(int count, char **words)
     if (count == 2 && strcmp(words[1], "desk") == 0) return run_desk();
     if (count == 6 && strcmp(words[1], "generate") == 0) return run_generate(words + 2);
     if (count == 2 && strcmp(words[1], "selftest") == 0) return selftest();
-    if (count == 3 && strcmp(words[1], "vectors") == 0) return run_vectors(words[2]);
-    fputs("second answer | desk | generate texts|runs SEED COUNT DIR | selftest | vectors FILE\n", stderr);
+    if (count == 3 && strcmp(words[1], "vectors") == 0) return run_vectors(words[2], NULL);
+    if (count == 4 && strcmp(words[1], "scripts") == 0) return run_vectors(words[2], words[3]);
+    fputs("second answer | desk | generate texts|runs SEED COUNT DIR | selftest | vectors FILE | scripts FILE DIR\n", stderr);
     return 2;
 }

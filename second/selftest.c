@@ -226,7 +226,11 @@ static void check_scripts(struct tally *t)
     rewrite(d, MERGE, merge, 2);
     word merged = check_words(d.words, d.count), lent = desk_size(2), two[] = {5, 6};
     check(t, check_words(two, 0) == 14695981039346656037u, "the checksum of nothing");
-    check(t, check_words(two, 1) == (14695981039346656037u ^ 5) * 1099511628211u, "the checksum of one word");
+    word once = (14695981039346656037u ^ 5) * 1099511628211u, top = (word)1 << 63;
+    check(t, check_words(two, 1) == (once ^ once >> 32), "the checksum of one word");
+    word first[] = {7, top, 0, 9}, second[] = {7, 0, top, 9}, both[] = {7, top, top, 9}, none[] = {7, 0, 0, 9};
+    check(t, check_words(first, 4) != check_words(second, 4), "the top bit in another word");
+    check(t, check_words(both, 4) != check_words(none, 4), "the top bit in two words");
     char line[60];
     sprintf(line, "lend %" PRIu64 " 9", lent);
     check(t, run_line(&b, "table 1 0 3 0 1 2", NULL) && run_line(&b, line, NULL), "settings");

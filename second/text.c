@@ -202,3 +202,13 @@ size_t program_answer(const unsigned char *input, size_t length, char *out)
     memcpy(out, p.bytes, p.length);
     return p.length;
 }
+
+struct refusal answer_text(const unsigned char *input, size_t length, char *out, size_t room, size_t *written)
+{
+    char answer[MOST_ANSWER];
+    size_t count = program_answer(input, length, answer);
+    if (count > room) return refused(4);
+    memcpy(out, answer, count);
+    *written = count;
+    return accepted();
+}

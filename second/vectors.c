@@ -1,6 +1,7 @@
 /* Part of second.c: runs the vectors of the source documents. The form of a line is explained at the top of vectors.txt. */
 
-enum { VECTOR_FIELDS = 6 };
+enum { VECTOR_FIELDS = 6, LEAST_VECTORS = 15 };
+static const char *const vector_kinds[] = {"decide", "merge", "shift", "chain", "fork"};
 
 static char *without_spaces(char *text)
 {
@@ -24,13 +25,21 @@ static int cut_into(char *text, char mark, char **parts, int most)
 
 static bool begins(const char *text, const char *with) { return strncmp(text, with, strlen(with)) == 0; }
 
+/* The kind of a step and what stands behind it; above FORK where there is none. */
+static word kind_of(const char **step)
+{
+    for (word kind = DECIDE; kind <= FORK; kind++) {
+        if (!begins(*step, vector_kinds[kind])) continue;
+        *step += strlen(vector_kinds[kind]);
+        return kind;
+    }
+    return FORK + 1;
+}
+
 static bool take_vector_step(struct lent d, const char *step)
 {
-    static const char *const kinds[] = {"decide", "merge", "shift", "chain", "fork"};
-    word named[16], kind, count = 0;
-    for (kind = DECIDE; kind <= FORK && !begins(step, kinds[kind]); kind++) continue;
+    word named[16], kind = kind_of(&step), count = 0;
     if (kind > FORK) return false;
-    step += strlen(kinds[kind]);
     if (kind == DECIDE) return decide(d, atoi(step)).number == 0;
     char *end;
     for (word row = strtoull(step, &end, 10); end != step && count < 16; row = strtoull(step, &end, 10)) {
@@ -127,20 +136,62 @@ static const char *run_vector(char **fields)
     return NULL;
 }
 
+/* The calls of a vector as a script, and the desk after them. */
+static void write_script(char **fields, FILE *out)
+{
+    char *steps[40];
+    struct draft d = draft_from(strtoull(fields[2], NULL, 10), fields[3]);
+    int count = *fields[4] == 0 ? 0 : cut_into(fields[4], ';', steps, 40);
+    fputs("table", out);
+    for (word i = 0; i < ROW_WORDS * d.rows; i++) fprintf(out, " %" PRIu64, d.words[i]);
+    fprintf(out, "\nlend %" PRIu64 " 1\nload %" PRIu64 " 100\n", desk_size(100), d.variables);
+    for (int i = 0; i < count; i++) {
+        const char *step = steps[i];
+        word kind = kind_of(&step);
+        if (kind == DECIDE) fprintf(out, "decide%s\n", step);
+        else fprintf(out, "rewrite %" PRIu64 "%s\n", kind, step);
+    }
+    fprintf(out, "bound\nsearch %u\nwords 0 %" PRIu64 "\n", MOST_BUDGET, desk_size(100));
+}
+
+/* The next vector's fields, or false at the end. A line with fewer fields leaves the last ones empty. */
+static bool next_vector(char **text, char **fields)
+{
+    static char nothing[1];
+    while (*text != NULL) {
+        char *line = *text;
+        *text = strchr(line, '\n');
+        if (*text != NULL) *(*text)++ = 0;
+        if (*line == 0 || *line == '#') continue;
+        for (int f = 0; f < VECTOR_FIELDS; f++) fields[f] = nothing;
+        cut_into(line, '|', fields, VECTOR_FIELDS);
+        return true;
+    }
+    return false;
+}
+
 static int check_vectors(char *text)
 {
     int passed = 0, failed = 0;
-    char *fields[VECTOR_FIELDS], *next;
-    for (char *line = text; line != NULL; line = next) {
-        next = strchr(line, '\n');
-        if (next != NULL) *next++ = 0;
-        if (*line == 0 || *line == '#') continue;
-        const char *wrong = "a line needs six fields";
-        if (cut_into(line, '|', fields, VECTOR_FIELDS) == VECTOR_FIELDS) wrong = run_vector(fields);
+    char *fields[VECTOR_FIELDS];
+    while (next_vector(&text, fields)) {
+        const char *wrong = *fields[5] == 0 ? "a line needs six fields" : run_vector(fields);
         if (wrong == NULL) passed++;
         else failed++;
         if (wrong != NULL) printf("%s, %s: %s\n", fields[0], fields[1], wrong);
     }
     printf("%d passed, %d failed\n", passed, failed);
-    return failed == 0 ? 0 : 1;
+    return failed == 0 && passed >= LEAST_VECTORS ? 0 : 1;
+}
+
+static int write_scripts(char *text, const char *dir)
+{
+    char *fields[VECTOR_FIELDS];
+    for (int i = 0; next_vector(&text, fields); i++) {
+        FILE *out = open_case(dir, i, "vector", "run");
+        if (out == NULL) return 2;
+        write_script(fields, out);
+        fclose(out);
+    }
+    return 0;
 }

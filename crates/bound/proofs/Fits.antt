@@ -1,8 +1,8 @@
 -- No sum of the bound wraps: the weights of some rows are at most those of all, which are at most the limit, and there are 64 variables
--- at most. And the two sums of a variable as they grow by a row.
+-- at most.
 use Prim.Native.Nat.{ℕ, _+_, _*_, _≤_, _<_}
 use mathlib.Core.List.{List}
-use mathlib.Core.Path.{_≡_, ap, _∙_}
+use mathlib.Core.Path.{_≡_}
 use mathlib.Core.Bool.{Bool, true, cond, not, _&&_}
 use native.Mathlib.Nat.{min-le-left}
 use native.Mathlib.Omega.{arith}
@@ -18,8 +18,7 @@ use Rattle.rules.specs.Table.{mostWeight}
 use Rattle.rules.specs.Desk.{variables, inUse, conceded, rowOn, rowPlace, deskWords, wellFormed, weightOn, satisfied, remnant}
 use Rattle.rules.specs.Bound.{weightWhere, lostBeyond, unitWeight, foreseenAt, foreseen}
 use Rattle.step_laws.proofs.Formed.{formed}
-use Rattle.bound.specs.declared.Units.{Units}
-use Rattle.bound.specs.Units.{unitsBy, Readable, positiveUnit, negativeUnit}
+use Rattle.bound.specs.Units.{Readable, positiveUnit, negativeUnit}
 
 pub where-le : (test : Lits → Bool) (p : Part) (row : Row) → weightWhere test p row ≤ row .weight
 unfolding weightWhere
@@ -75,15 +74,3 @@ unfolding deskWords rowPlace
 readable d h =
     let f = formed d h in
     record { rows = omega (arith, f .reaching, f .fitting); weights = f .light; bits = f .named }
-
--- ---- what a turn over the rows adds, from what its calls ensure
-
-module _ (d : List ℕ) (p : Part) (i : ℕ) (row : Row) (e : row ≡ rowOn d i) where
-  pub lost-turn : (x : ℕ) → x ≡ weightWhere isEmpty p row → x ≡ weightWhere isEmpty p (rowOn d i)
-  lost-turn x f = f ∙ ap (λ (r : Row). weightWhere isEmpty p r) e
-
-  pub units-turn : (v : ℕ) (u : Units) → u ≡ unitsBy p row v
-      → (u .positive ≡ weightWhere (sameLits (positiveUnit v)) p (rowOn d i)) × (u .negative ≡ weightWhere (sameLits (negativeUnit v)) p (rowOn d i))
-  units-turn v u f =
-      let g : u ≡ unitsBy p (rowOn d i) v = f ∙ ap (λ (r : Row). unitsBy p r v) e in
-      (ap (λ (x : Units). x .positive) g, ap (λ (x : Units). x .negative) g)

@@ -2,17 +2,18 @@
 -- Where the count is 1, one mask is empty and the other has one bit, so that it is the power of two of its lowest place.
 use Prim.Native.Nat.{ℕ, _+_, _^_, _<_}
 use mathlib.Core.Path.{_≡_, sym, ap, _∙_}
-use mathlib.Core.Bool.{Bool, true, false, cond}
+use mathlib.Core.Bool.{Bool, true, false, cond, not, and-false}
 use mathlib.Core.Logic.{⊎-elim}
 use native.Mathlib.Nat.{eq-zero-or-pos}
 use native.Mathlib.Omega.{arith}
-use lib.Bits.{bitOr, or-zero-l, or-zero-r}
+use lib.Bits.{bitOr, or-zero-l, or-zero-r, or-lt}
 use lib.Count.{trailingZeros}
 use lib.Pow.{pow-pos}
-use Rattle.masks.specs.Masks.{count, single}
-use Rattle.masks.proofs.Choice.{not-so}
+use Rattle.masks.specs.Masks.{count, single, has, without}
+use Rattle.masks.proofs.Choice.{not-so, clash, or-none}
+use Rattle.masks.proofs.Bits.{has-or, has-without, has-pow-same}
 use Rattle.masks.proofs.Counts.{count-zero, count-empty, count-pow, count-one, trailing-pow}
-use Rattle.masks.proofs.Sets.{single-pow}
+use Rattle.masks.proofs.Sets.{or-empty, single-pow}
 use Rattle.literals.specs.declared.Lits.{Lits}
 use Rattle.literals.specs.Lits.{isEmpty, sameLits}
 use Rattle.literals.proofs.TwoMasks.{lits-ext, same-eq, eq-same, empty-masks, masks-empty}
@@ -21,7 +22,7 @@ use Rattle.rules.specs.declared.Part.{Part}
 use Rattle.rules.specs.Desk.{satisfied, remnant}
 use Rattle.rules.specs.Bound.{weightWhere}
 use Rattle.bound.specs.declared.Units.{Units}
-use Rattle.bound.specs.Units.{positiveUnit, negativeUnit, unitsIn}
+use Rattle.bound.specs.Units.{positiveUnit, negativeUnit, unitsIn, unitsBy}
 
 -- ---- a row, satisfied or not
 
@@ -34,8 +35,30 @@ module _ (test : Lits → Bool) (p : Part) (row : Row) where
   unfolding weightWhere
   where-left e = rw e
 
+  no-weight : (l : Lits) → sameLits l (remnant p (row .lits)) ≡ false → weightWhere (sameLits l) p row ≡ 0
+  unfolding weightWhere
+  no-weight l e = rw (e, and-false (not (satisfied p (row .lits))))
+
 pub units-ext : (a b : Units) → a .positive ≡ b .positive → a .negative ≡ b .negative → a ≡ b
 units-ext a b p q = λ i. record { positive = p i; negative = q i }
+
+-- ---- a row that does not name the variable
+
+module _ (p : Part) (row : Row) (v : ℕ) (below : v < 64) where
+  left-out : (a b : ℕ) → has a v ≡ false → single v ≡ without a b → ⊥
+  left-out a b e same =
+      clash (ap (λ (m : ℕ). has m v) (single-pow v below) ∙ has-pow-same v) (ap (λ (m : ℕ). has m v) same ∙ has-without a b v ∙ rw e)
+
+  pub not-named : has (bitOr (row .lits .positive) (row .lits .negative)) v ≡ false → record { positive = 0; negative = 0 } ≡ unitsBy p row v
+  unfolding remnant
+  not-named e =
+      let l = row .lits in
+      let none = or-none (has (l .positive) v) (has (l .negative) v) (sym (has-or (l .positive) (l .negative) v) ∙ e) in
+      units-ext _ _
+      (sym (no-weight (sameLits (positiveUnit v)) p row (positiveUnit v) (not-so (λ t.
+      left-out (l .positive) (p .decided) (none .0) (ap (λ (m : Lits). m .positive) (same-eq (positiveUnit v) (remnant p l) t))))))
+      (sym (no-weight (sameLits (negativeUnit v)) p row (negativeUnit v) (not-so (λ t.
+      left-out (l .negative) (p .decided) (none .1) (ap (λ (m : Lits). m .negative) (same-eq (negativeUnit v) (remnant p l) t))))))
 
 -- ---- nothing is left
 
@@ -43,13 +66,12 @@ module _ (a b : ℕ) (ha : a < 2 ^ 64) (hb : b < 2 ^ 64) where
   abbrev these : Lits
   these = record { positive = a; negative = b }
 
-  pub no-ones : (w : ℕ) → count a + count b ≡ 0 → w ≡ cond (isEmpty these) w 0
-  no-ones w e =
-      rw (masks-empty these (count-empty ha (omega arith)) (count-empty hb (omega arith)))
+  pub no-ones : (w : ℕ) → count (bitOr a b) ≡ 0 → w ≡ cond (isEmpty these) w 0
+  no-ones w e = let m = or-empty a b (count-empty (or-lt 64 a b ha hb) e) in rw (masks-empty these (m .0) (m .1))
 
-  pub some-ones : (w : ℕ) → (count a + count b ≡ 0 → ⊥) → 0 ≡ cond (isEmpty these) w 0
+  pub some-ones : (w : ℕ) → (count (bitOr a b) ≡ 0 → ⊥) → 0 ≡ cond (isEmpty these) w 0
   some-ones w h =
-      let e : isEmpty these ≡ false = not-so (λ t. h (let m = empty-masks these t in rw (m .0, m .1) (omega (arith, count-zero)))) in
+      let e : isEmpty these ≡ false = not-so (λ t. h (let m = empty-masks these t in rw (m .0, m .1, or-zero-l 0) count-zero)) in
       rw e
 
   -- ---- one literal on the variable with bit v

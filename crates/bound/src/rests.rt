@@ -24,7 +24,11 @@ fn ones(positive: u64, negative: u64) -> u64
 fn lost_in(positive: u64, negative: u64, w: u64) -> u64
     ensures { λ r. ⌜ r ≡ cond (isEmpty (record { positive = positive; negative = negative })) w 0 ⌝ }
 {
-    if ones(positive, negative) == 0 { w } else { 0 }
+    if masks::count(positive | negative) == 0 {
+        w
+    } else {
+        0
+    }
 }
 
 // The weight, at its sign, where what is left is one literal on the variable with bit v. Then one mask is empty and the
@@ -70,12 +74,18 @@ pub fn lost_by(p: Part, row: Row) -> u64
     lost_in(rest.positive, rest.negative, row.weight)
 }
 
-// What a row adds to the two sums of the variable with bit v.
+// What a row adds to the two sums of the variable with bit v. Most rows do not name it, and are passed over by that first test.
 pub fn units_by(p: Part, row: Row, v: u64) -> Units
     requires { ⌜ v < 64 ⌝ }
     ensures { λ r. ⌜ r ≡ unitsBy p row v ⌝ }
 {
     let l = row.lits;
+    if !masks::has(l.positive | l.negative, v) {
+        return Units {
+            positive: 0,
+            negative: 0,
+        };
+    }
     if p.satisfied(l) {
         return Units {
             positive: 0,

@@ -1,6 +1,7 @@
 // A text on standard input, read into a table and written out from it on standard output; nothing where either is refused. This runs
 // reader and writer on texts that are too long for the solver.
-ghost use Rattle.copy.specs.Copied.{Copied};
+ghost use mathlib.Core.Path.{_≡_};
+ghost use Rattle.copy.specs.Copied.{lengthOf, copyLength, copyOut};
 use libc::STDIN_FILENO;
 use libc::STDOUT_FILENO;
 use rules::Row;
@@ -12,23 +13,32 @@ const ROOM: usize = 136_794;
 
 const TABLE: usize = Row::WORDS * Row::MOST;
 
+fn length_of(written: Written) -> usize
+    ensures { λ r. ⌜ r ≡ lengthOf written ⌝ }
+{
+    match written {
+        Written::Bytes(n) => n,
+        Written::Refused(_) => 0,
+    }
+}
+
 fn again(input: &[u8], output: &mut [u8]) -> usize
-    ensures { λ r. ⌜ Copied (now (input .entry)) r (now (output .exit)) ⌝ }
+    ensures length { λ r. ⌜ r ≡ copyLength (now (input .entry)) (now (output .entry)) ⌝ }
+    ensures bytes { λ _. ⌜ now (output .exit) ≡ copyOut (now (input .entry)) (now (output .entry)) ⌝ }
 {
     let mut table = [0u64; TABLE];
-    let TextRead::Table {
-        variables,
-        budget,
-        rows,
-    } = text::read(input, &mut table)
-    else {
-        return 0;
-    };
-    let n = Row::WORDS * (rows as usize);
-    let Written::Bytes(m) = text::write(variables, budget as u32, &table[..n], output) else {
-        return 0;
-    };
-    m
+    match text::read(input, &mut table) {
+        TextRead::Refused(_) => 0,
+        TextRead::Table {
+            variables,
+            budget,
+            rows,
+        } => {
+            let n = Row::WORDS * (rows as usize);
+            let written = text::write(variables, budget as u32, &table[..n], output);
+            length_of(written)
+        }
+    }
 }
 
 fn main() {

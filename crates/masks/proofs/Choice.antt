@@ -31,6 +31,11 @@ clash t f = true≢false (sym t ∙ f)
 pub same-test : {a b : Bool} → (a ≡ true → b ≡ true) → (b ≡ true → a ≡ true) → a ≡ b
 same-test {a} {b} h k = ⊎-elim (λ t. t ∙ sym (h t)) (λ f. f ∙ sym (not-so (λ t. clash (k t) f))) (cases a)
 
+-- neither part of a disjunction that fails holds
+pub or-none : (a b : Bool) → (a || b) ≡ false → (a ≡ false) × (b ≡ false)
+or-none true b e = absurd (true≢false e)
+or-none false b e = (refl, e)
+
 pub and-left : (a b : Bool) → (a && b) ≡ true → a ≡ true
 and-left true b e = refl
 and-left false b e = e

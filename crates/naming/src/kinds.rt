@@ -2,11 +2,15 @@
 ghost use mathlib.Core.Path.{_≡_};
 ghost use lib.ListN.{getD};
 ghost use Rattle.rules.specs.Rewrite.{fewerAdded, concedes, countFits};
+use rules::Entry;
+
+// The most links that a chain or a fork may have.
+const LINKS: u64 = Entry::LONGEST as u64;
 
 // Fewest and most rows named, rows named less rows added, and whether it concedes.
 const FEWEST: [u64; 5] = [0, 2, 2, 2, 4];
 
-const MOST: [u64; 5] = [0, 2, 2, 10, 12];
+const MOST: [u64; 5] = [0, 2, 2, 2 + LINKS, 4 + LINKS];
 
 const FEWER_ADDED: [u64; 5] = [0, 1, 0, 2, 2];
 

@@ -4,3 +4,4 @@ pub mod EntryPoints
 pub mod Rewriting
 pub mod Demands
 pub mod Frauds
+pub mod Embedding

@@ -1,3 +1,4 @@
 pub mod Orders
 pub mod EntryPoints
 pub mod Demands
+pub mod Embedding

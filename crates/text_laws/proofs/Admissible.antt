@@ -11,7 +11,7 @@ use lib.Dec.{ltb, eqb}
 use lib.Bits.{bitAnd}
 use lib.ListN.{length}
 use Rattle.masks.specs.Masks.{none, below}
-use Rattle.masks.proofs.Choice.{and-left, and-right, lt-or-le}
+use Rattle.masks.proofs.Choice.{or-none, and-left, and-right, lt-or-le}
 use Rattle.masks.proofs.Bits.{below-lt}
 use Rattle.literals.specs.declared.Lits.{Lits}
 use Rattle.rules.specs.declared.Row.{Row}
@@ -35,10 +35,6 @@ pub fine-is : (j : Judged) → isFine j ≡ true → j ≡ Fine
 fine-is Fine e = refl
 fine-is (Refused r) e = absurd (let z : _≡_ {A = ℕ} 0 1 = cc in omega arith)
 
-or-false : (a b : Bool) → (a || b) ≡ false → (a ≡ false) × (b ≡ false)
-or-false true b e = absurd (let z : _≡_ {A = ℕ} 0 1 = cc in omega arith)
-or-false false b e = (refl, e)
-
 pub record RowFine (n : ℕ) (row : Row) : Type 0 where
   pub apart : bitAnd (row .lits .positive) (row .lits .negative) ≡ 0
   pub positive : below (row .lits .positive) n ≡ true
@@ -50,8 +46,8 @@ unfolding rowWhy badLits badWeight none
 row-fine n i row e =
     let p1 = passed (badLits n (row .lits)) (BadLiterals i) _ e in
     let p2 = passed (badWeight (row .weight)) (BadWeight i) _ (p1 .1) in
-    let l = or-false (not (none (bitAnd (row .lits .positive) (row .lits .negative)))) (not (below (row .lits .positive) n && below (row .lits .negative) n)) (p1 .0) in
-    let w = or-false (eqb (row .weight) 0) (ltb 1_000_000_000 (row .weight)) (p2 .0) in
+    let l = or-none (not (none (bitAnd (row .lits .positive) (row .lits .negative)))) (not (below (row .lits .positive) n && below (row .lits .negative) n)) (p1 .0) in
+    let w = or-none (eqb (row .weight) 0) (ltb 1_000_000_000 (row .weight)) (p2 .0) in
     let b = not-false (below (row .lits .positive) n && below (row .lits .negative) n) (l .1) in
     record {
       apart = eqb-true (bitAnd (row .lits .positive) (row .lits .negative)) 0 (not-false (none (bitAnd (row .lits .positive) (row .lits .negative))) (l .0));
@@ -79,7 +75,7 @@ table-fine n table e =
     let p1 = passed (ltb 64 n) TooManyVariables _ e in
     let p2 = passed (badTable table) BadTable _ (p1 .1) in
     let p3 = both-fine (rowsWhy n table (rowCount table)) _ (p2 .1) in
-    let t = or-false (not (eqb (length table % 3) 0)) (ltb 512 (rowCount table)) (p2 .0) in
+    let t = or-none (not (eqb (length table % 3) 0)) (ltb 512 (rowCount table)) (p2 .0) in
     record {
       variables = ltb-false 64 n (p1 .0);
       whole = eqb-true (length table % 3) 0 (not-false (eqb (length table % 3) 0) (t .0));

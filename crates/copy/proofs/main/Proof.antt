@@ -1,6 +1,7 @@
 -- `main` is safe: what it lends lies within what it has.
 use native.Mathlib.Omega.{arith}
 use lib.ListN.{length-take}
+use Rattle.copy.proofs.Copies.{copied}
 use borrow.Author.Needs.{needs}
 use Rattle.copy.proofs.main.Statement.{statement}
 use Rattle.copy.proofs.main.Tie as tie
@@ -24,10 +25,10 @@ again-requires : tie.Need-again-requires
 again-requires c κs = search needs
 
 array-share-prefix-output : tie.Need-array-share-prefix-output
-array-share-prefix-output c = search needs
+array-share-prefix-output c = omega (arith, copied _ _ _ _ (c .before .again .ensures) .within)
 
 slice-aggregate-write-all : tie.Need-slice-aggregate-write-all
-slice-aggregate-write-all c = simp length-take (omega (arith, c .before .before .again .ensures .within))
+slice-aggregate-write-all c = simp length-take (omega (arith, copied _ _ _ _ (c .before .before .again .ensures) .within))
 
 write-all-requires : tie.Need-write-all-requires
 write-all-requires c κs = search needs

@@ -1,6 +1,6 @@
 -- `lost_beyond` meets its contract: after i turns the sum is that of the first i rows.
 use Prim.Native.Nat.{ℕ, _≤_, _-_}
-use mathlib.Core.Path.{_≡_, sym, subst}
+use mathlib.Core.Path.{_≡_, sym, ap, subst, _∙_}
 use native.Mathlib.Omega.{arith}
 use borrow.Author.Needs.{needs}
 use Rattle.masks.specs.Sums.{sum}
@@ -8,7 +8,7 @@ use Rattle.masks.proofs.Sums.{sum-empty, sum-more}
 use Rattle.literals.specs.Lits.{isEmpty}
 use Rattle.rules.specs.Desk.{inUse, rowOn}
 use Rattle.rules.specs.Bound.{weightWhere, lostBeyond}
-use Rattle.bound.proofs.Fits.{rows-fit, lost-turn}
+use Rattle.bound.proofs.Fits.{rows-fit}
 use Rattle.bound.proofs.inner.lost_beyond.Statement.{statement}
 use Rattle.bound.proofs.inner.lost_beyond.Tie as tie
 
@@ -32,17 +32,21 @@ row-on-requires c κs =
 lost-by-requires : tie.Need-lost-by-requires Inv-loop μ-loop
 lost-by-requires c κs = search needs
 
--- what the turn adds, and that it fits
+-- what the turn adds
+added : (c : tie.After-lost-by Inv-loop μ-loop)
+    → let a = c .before .before .before .before .before .before .args in
+    c .lost-by .result ≡ weightWhere isEmpty (a .p) (rowOn (a .desk .now) (c .before .before .before .loop .i))
+added c =
+    let a = c .before .before .before .before .before .before .args in
+    c .lost-by .ensures ∙ ap (weightWhere isEmpty (a .p)) (c .before .row-on .ensures)
+
 add-lost : tie.Need-add-lost Inv-loop μ-loop
 add-lost c =
     let s = c .before .before .before .before .before .before in
-    let a = s .args in
-    let l = c .before .before .before .loop in
-    let d = a .desk .now in
     omega (
       arith,
-      lost-turn d (a .p) (l .i) (c .before .row-on .result) (c .before .row-on .ensures) (c .lost-by .result) (c .lost-by .ensures),
-      rows-fit d (s .pre) (a .p) isEmpty (l .i) (omega (arith, c .before .before .before .before .word .ensures)),
+      added c,
+      rows-fit (s .args .desk .now) (s .pre) (s .args .p) isEmpty (c .before .before .before .loop .i) (omega (arith, c .before .before .before .before .word .ensures)),
     )
 
 add-i : tie.Need-add-i Inv-loop μ-loop
@@ -54,15 +58,7 @@ loop-less c = omega arith
 loop-again : tie.Need-loop-again Inv-loop μ-loop
 loop-again c =
     let a = c .before .before .before .before .before .before .args in
-    let l = c .before .before .before .loop in
-    let d = a .desk .now in (
-      omega arith,
-      omega (
-        arith,
-        lost-turn d (a .p) (l .i) (c .before .row-on .result) (c .before .row-on .ensures) (c .lost-by .result) (c .lost-by .ensures),
-        sum-more (l .i) (λ k. weightWhere isEmpty (a .p) (rowOn d k)),
-      ),
-    )
+    (omega arith, omega (arith, added c, sum-more (c .before .before .before .loop .i) (λ k. weightWhere isEmpty (a .p) (rowOn (a .desk .now) k))))
 
 returns : tie.Need-returns Inv-loop μ-loop
 unfolding lostBeyond

@@ -1,4 +1,3 @@
-use Prim.Native.Nat.{ℕ}
 -- `figure` meets its contract: past the table's end the list answers 0 too.
 use mathlib.Core.Path.{sym}
 use native.Mathlib.Omega.{arith}

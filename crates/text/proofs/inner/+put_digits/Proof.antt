@@ -29,130 +29,68 @@ abbrev put-digits-below : ℕ → In 1 put-digits-kinds.ps
 put-digits-below t =
     and 1 put-digits-kinds.ps (falls 1 put-digits-kinds.ps _<_ μ-put-digits t) put-digits.Pre
 
-put-digits-returns : (t : ℕ) → put-digits-lts.Need-returns (
+abbrev calls : ℕ → put-digits-lts.Claims
+calls t = (
   put-reads.Asked,
   put-reads.Learnt,
   put-digits-below t,
   put-digits.Post,
-) (put-digits-at t) put-digits.Post
+)
+
+put-digits-returns : (t : ℕ) → put-digits-lts.Need-returns (calls t) (put-digits-at t) put-digits.Post
 put-digits-returns t c =
     let a = c .before .before .args in
     rw (digits-none (a .most) (a .n) (c .if1 .taken)) (stored-none (a .out .now) (a .at))
 
-put-digits-cast-b : (t : ℕ) → put-digits-lts.Need-cast-b (
-  put-reads.Asked,
-  put-reads.Learnt,
-  put-digits-below t,
-  put-digits.Post,
-) (put-digits-at t) put-digits.Post
+put-digits-cast-b : (t : ℕ) → put-digits-lts.Need-cast-b (calls t) (put-digits-at t) put-digits.Post
 put-digits-cast-b t c = omega arith
 
-put-digits-add-put : (t : ℕ) → put-digits-lts.Need-add-put (
-  put-reads.Asked,
-  put-reads.Learnt,
-  put-digits-below t,
-  put-digits.Post,
-) (put-digits-at t) put-digits.Post
+put-digits-add-put : (t : ℕ) → put-digits-lts.Need-add-put (calls t) (put-digits-at t) put-digits.Post
 put-digits-add-put t c = omega arith
 
-put-digits-put-requires : (t : ℕ) → put-digits-lts.Need-put-requires (
-  put-reads.Asked,
-  put-reads.Learnt,
-  put-digits-below t,
-  put-digits.Post,
-) (put-digits-at t) put-digits.Post
+put-digits-put-requires : (t : ℕ) → put-digits-lts.Need-put-requires (calls t) (put-digits-at t) put-digits.Post
 put-digits-put-requires t c κs = omega (arith, c .before .before .before .before .pre .1, c .before .before .if1 .left)
 
-put-digits-same-length : (t : ℕ) → put-digits-lts.Need-same-length (
-  put-reads.Asked,
-  put-reads.Learnt,
-  put-digits-below t,
-  put-digits.Post,
-) (put-digits-at t) put-digits.Post
+put-digits-same-length : (t : ℕ) → put-digits-lts.Need-same-length (calls t) (put-digits-at t) put-digits.Post
 put-digits-same-length t c = c .before .before .put .kept .0
 
-put-digits-returns-2 : (t : ℕ) → put-digits-lts.Need-returns-2 (
-  put-reads.Asked,
-  put-reads.Learnt,
-  put-digits-below t,
-  put-digits.Post,
-) (put-digits-at t) put-digits.Post
+put-digits-returns-2 : (t : ℕ) → put-digits-lts.Need-returns-2 (calls t) (put-digits-at t) put-digits.Post
 put-digits-returns-2 t c =
     let a = c .before .before .before .before .before .before .before .args in
     rw (digits-one (a .most) (a .n) (c .before .before .before .before .before .if1 .left) (c .before .before .before .before .if2 .taken)) (c .before .before .put .ensures)
 
-put-digits-sub-put-digits : (t : ℕ) → put-digits-lts.Need-sub-put-digits (
-  put-reads.Asked,
-  put-reads.Learnt,
-  put-digits-below t,
-  put-digits.Post,
-) (put-digits-at t) put-digits.Post
+put-digits-sub-put-digits : (t : ℕ) → put-digits-lts.Need-sub-put-digits (calls t) (put-digits-at t) put-digits.Post
 put-digits-sub-put-digits t c = pos-of-ne-zero (c .before .before .if1 .left)
 
-put-digits-put-digits-requires : (t : ℕ) → put-digits-lts.Need-put-digits-requires (
-  put-reads.Asked,
-  put-reads.Learnt,
-  put-digits-below t,
-  put-digits.Post,
-) (put-digits-at t) put-digits.Post
+put-digits-put-digits-requires : (t : ℕ) → put-digits-lts.Need-put-digits-requires (calls t) (put-digits-at t) put-digits.Post
 put-digits-put-digits-requires t c κs =
     let a = c .before .before .before .before .args in
     let most : 0 < a .most = pos-of-ne-zero (c .before .before .if1 .left) in
     (omega (arith, c .before .before .before .before .pre .0), omega (arith, c .before .before .before .before .pre .1))
 
-put-digits-cast-b-2 : (t : ℕ) → put-digits-lts.Need-cast-b-2 (
-  put-reads.Asked,
-  put-reads.Learnt,
-  put-digits-below t,
-  put-digits.Post,
-) (put-digits-at t) put-digits.Post
+put-digits-cast-b-2 : (t : ℕ) → put-digits-lts.Need-cast-b-2 (calls t) (put-digits-at t) put-digits.Post
 put-digits-cast-b-2 t c = omega arith
 
-put-digits-add-put-2 : (t : ℕ) → put-digits-lts.Need-add-put-2 (
-  put-reads.Asked,
-  put-reads.Learnt,
-  put-digits-below t,
-  put-digits.Post,
-) (put-digits-at t) put-digits.Post
+put-digits-add-put-2 : (t : ℕ) → put-digits-lts.Need-add-put-2 (calls t) (put-digits-at t) put-digits.Post
 put-digits-add-put-2 t c = omega arith
 
-put-digits-put-requires-2 : (t : ℕ) → put-digits-lts.Need-put-requires-2 (
-  put-reads.Asked,
-  put-reads.Learnt,
-  put-digits-below t,
-  put-digits.Post,
-) (put-digits-at t) put-digits.Post
+put-digits-put-requires-2 : (t : ℕ) → put-digits-lts.Need-put-requires-2 (calls t) (put-digits-at t) put-digits.Post
 put-digits-put-requires-2 t c κs =
     let a = c .before .before .before .before .before .before .before .before .args in
     let most : 0 < a .most = pos-of-ne-zero (c .before .before .before .before .before .before .if1 .left) in
     omega (arith, c .before .before .before .before .before .before .before .before .pre .1, c .before .before .before .put-digits .ensures .0, digits-length (a .most - 1) (a .n / 10))
 
-put-digits-same-length-2 : (t : ℕ) → put-digits-lts.Need-same-length-2 (
-  put-reads.Asked,
-  put-reads.Learnt,
-  put-digits-below t,
-  put-digits.Post,
-) (put-digits-at t) put-digits.Post
+put-digits-same-length-2 : (t : ℕ) → put-digits-lts.Need-same-length-2 (calls t) (put-digits-at t) put-digits.Post
 put-digits-same-length-2 t c = c .before .before .put2 .kept .0 ∙ c .before .before .before .before .before .before .put-digits .kept .0
 
-put-digits-returns-3 : (t : ℕ) → put-digits-lts.Need-returns-3 (
-  put-reads.Asked,
-  put-reads.Learnt,
-  put-digits-below t,
-  put-digits.Post,
-) (put-digits-at t) put-digits.Post
+put-digits-returns-3 : (t : ℕ) → put-digits-lts.Need-returns-3 (calls t) (put-digits-at t) put-digits.Post
 put-digits-returns-3 t c =
     let a = c .before .before .before .before .before .before .before .before .before .before .before .args in
     rw (digits-two (a .most) (a .n) (c .before .before .before .before .before .before .before .before .before .if1 .left) (c .before .before .before .before .before .before .before .before .if2 .left))
     (stored-both (a .out .now) (a .at) (digits (a .most - 1) (a .n / 10)) _ _ _ _ _ (c .before .before .before .before .before .before .put-digits .ensures) (c .before .before .put2 .ensures))
 
 pub +put-digits-spec : {M : Type 1} → statement M
-+put-digits-spec = close μ-put-digits λ t. put-digits-lts.spec (
-  put-reads.Asked,
-  put-reads.Learnt,
-  put-digits-below t,
-  put-digits.Post,
-)
++put-digits-spec = close μ-put-digits λ t. put-digits-lts.spec (calls t)
     (put-digits-at t)
     put-digits.Post
     (put-digits-returns t)

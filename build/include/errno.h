@@ -1,0 +1,8 @@
+// The number of the last error.
+#ifndef ERRNO_H
+#define ERRNO_H
+
+int *__errno_location(void);
+#define errno (*__errno_location())
+
+#endif

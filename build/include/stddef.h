@@ -1,0 +1,10 @@
+// Sizes and the null pointer, as much of them as the C code here uses. The kit's compiler comes with no headers.
+#ifndef STDDEF_H
+#define STDDEF_H
+
+typedef __SIZE_TYPE__ size_t;
+typedef __PTRDIFF_TYPE__ ptrdiff_t;
+
+#define NULL ((void *)0)
+
+#endif

@@ -1,0 +1,18 @@
+/* The repeated hour of README.md: the cheapest account, then what keeping the guard's word, stamp 3 in the first pass, costs at least. */
+#include "olikumpasho.h"
+#include <inttypes.h>
+#include <stdio.h>
+
+int main(void)
+{
+    /* 1 weighs 5; -2 weighs 5; 2 -3 weighs 4; 3 weighs 2 */
+    uint64_t table[] = {1, 0, 5, 0, 2, 5, 2, 4, 4, 4, 0, 2}, desk[OLIKUMPASHO_DESK_WORDS(8)], found[5], least;
+    const size_t words = sizeof desk / sizeof *desk;
+    uint64_t no = olikumpasho_load(3, table, 12, 8, desk, words);
+    if (no == 0) no = olikumpasho_search(desk, words, 100, found);
+    if (no == 0) no = olikumpasho_decide(desk, words, 3);
+    if (no == 0) no = olikumpasho_bound(desk, words, &least);
+    if (no != 0) return printf("refused: number %u, place %" PRIu64 "\n", OLIKUMPASHO_NUMBER(no), OLIKUMPASHO_PLACE(no)), 1;
+    printf("%s: weight %" PRIu64 ", reading %" PRIu64 ", %" PRIu64 " nodes\n", found[0] == 0 ? "done" : "stopped", found[2], found[3], found[4]);
+    printf("with 3 true, at least %" PRIu64 "\n", least);
+}

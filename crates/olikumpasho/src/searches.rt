@@ -1,0 +1,62 @@
+// The bound and the search. The desk is only read.
+ghost use mathlib.Core.Path.{_≡_};
+ghost use Rattle.rules.specs.Bound.{bounded};
+ghost use Rattle.rules.specs.Walk.{searched};
+ghost use Rattle.olikumpasho.specs.Told.{told, byBounded, boundOut, bySearched, foundOut, statusWord, foundWords};
+use crate::tell::tell;
+use rules::Best;
+use rules::Bounded;
+use rules::Found;
+use rules::Judged;
+use rules::Searched;
+use rules::Status;
+
+#[no_mangle]
+pub extern "C" fn olikumpasho_bound(desk: &[u64], least: &mut u64) -> u64
+    ensures answer { λ r. ⌜ r ≡ told (byBounded (bounded (now (desk .entry)))) ⌝ }
+    ensures lent { λ _. ⌜ now (least .exit) ≡ boundOut (bounded (now (desk .entry))) (now (least .entry)) ⌝ }
+{
+    match bound::bound(desk) {
+        Bounded::Refused(r) => tell(Judged::Refused(r)),
+        Bounded::Bound(b) => {
+            *least = b;
+            0
+        }
+    }
+}
+
+fn status_word(s: Status) -> u64
+    ensures { λ r. ⌜ r ≡ statusWord s ⌝ }
+{
+    match s {
+        Status::Done => 0,
+        Status::Stopped => 1,
+    }
+}
+
+// Status, how many readings are kept, weight, reading, nodes.
+fn found_words(f: Found) -> [u64; 5]
+    ensures { λ r. ⌜ r ≡ foundWords f ⌝ }
+{
+    let s = f.status;
+    let status = status_word(s);
+    let best = f.best;
+    match best {
+        Best::Nothing => [status, 0, 0, 0, f.nodes],
+        Best::Reading { weight, reading } => [status, 1, weight, reading, f.nodes],
+    }
+}
+
+#[no_mangle]
+pub extern "C" fn olikumpasho_search(desk: &[u64], budget: u32, found: &mut [u64; 5]) -> u64
+    ensures answer { λ r. ⌜ r ≡ told (bySearched (searched (now (desk .entry)) budget)) ⌝ }
+    ensures lent { λ _. ⌜ now (found .exit) ≡ foundOut (searched (now (desk .entry)) budget) (now (found .entry)) ⌝ }
+{
+    match walk::search(desk, budget) {
+        Searched::Refused(r) => tell(Judged::Refused(r)),
+        Searched::Found(f) => {
+            *found = found_words(f);
+            0
+        }
+    }
+}
