@@ -1,0 +1,52 @@
+// example.c for C++, on vectors. An empty vector's data() may be null, and is lent like any other.
+#include "olikumpasho.h"
+#include <cstdio>
+#include <stdexcept>
+#include <string>
+#include <vector>
+
+static void accepted(uint64_t answer)
+{
+    if (answer == OLIKUMPASHO_ACCEPTED) return;
+    throw std::runtime_error("refused: number " + std::to_string(OLIKUMPASHO_NUMBER(answer)) + ", place " + std::to_string(OLIKUMPASHO_PLACE(answer)));
+}
+
+class Desk {
+    std::vector<uint64_t> words;
+
+public:
+    Desk(uint64_t variables, const std::vector<uint64_t> &table, uint64_t capacity) : words(OLIKUMPASHO_DESK_WORDS(capacity))
+    {
+        accepted(olikumpasho_load(variables, table.data(), table.size(), capacity, words.data(), words.size()));
+    }
+    void decide(int64_t literal) { accepted(olikumpasho_decide(words.data(), words.size(), literal)); }
+    uint64_t bound() const
+    {
+        uint64_t least;
+        accepted(olikumpasho_bound(words.data(), words.size(), &least));
+        return least;
+    }
+    std::vector<uint64_t> search(uint32_t budget) const
+    {
+        std::vector<uint64_t> found(OLIKUMPASHO_FOUND_WORDS);
+        accepted(olikumpasho_search(words.data(), words.size(), budget, found.data()));
+        return found;
+    }
+};
+
+int main()
+{
+    try {
+        if (Desk(0, {}, 0).bound() != 0) return 1; // no variables and no rows
+        Desk desk(3, {1, 0, 5, 0, 2, 5, 2, 4, 4, 4, 0, 2}, 8);
+        const auto found = desk.search(100);
+        desk.decide(3);
+        std::printf("%s: weight %llu, reading %llu, %llu nodes\n", found[OLIKUMPASHO_FOUND_STATUS] == OLIKUMPASHO_DONE ? "done" : "stopped",
+                    static_cast<unsigned long long>(found[OLIKUMPASHO_FOUND_WEIGHT]), static_cast<unsigned long long>(found[OLIKUMPASHO_FOUND_READING]),
+                    static_cast<unsigned long long>(found[OLIKUMPASHO_FOUND_NODES]));
+        std::printf("with 3 true, at least %llu\n", static_cast<unsigned long long>(desk.bound()));
+    } catch (const std::runtime_error &refusal) {
+        std::puts(refusal.what());
+        return 1;
+    }
+}

@@ -1,0 +1,419 @@
+/* Runs each function for C on a stack of a stated size, with pages behind it that may not be touched; and each with null pointers for what
+   it is lent empty.
+
+     stack                 prints each function's name and the size that the header states
+     stack nulls           the null pointers
+     stack NAME SIZE       runs its calls on a stack of SIZE bytes, a multiple of 64, and prints how many of them were used. A call
+                           that needs more ends the process by a fault
+
+   What a call is given takes its longest ways: full tables, the deepest search, the longest text, each rewriting with the most rows, and
+   refusals early and late. What has to be done before it is done in a process aside, on memory that both have: so the first call of memcpy
+   or memset, at which a dynamic linker may have to find them, is on the stated stack. */
+#include "../c/olikumpasho.h"
+
+#include <stdio.h>
+#include <stdlib.h>
+#include <string.h>
+#include <sys/mman.h>
+#include <sys/wait.h>
+#include <unistd.h>
+
+enum { GUARD = 1 << 16, ROWS = OLIKUMPASHO_MOST_ROWS, VARIABLES = OLIKUMPASHO_MOST_VARIABLES, CAPACITY = OLIKUMPASHO_MOST_CAPACITY };
+
+/* What the next call is lent, and what it answered. */
+static struct {
+    uint64_t table[3 * ROWS], desk[OLIKUMPASHO_DESK_WORDS(CAPACITY)], named[12], result[5], variables, reading, capacity, kind, answer;
+    uint8_t text[OLIKUMPASHO_MOST_WRITTEN], output[OLIKUMPASHO_MOST_WRITTEN];
+    size_t words, desk_words, count, text_size, room, size;
+    int64_t literal;
+    uint32_t budget;
+} *at;
+
+static void weight_of(void) { at->answer = olikumpasho_weight_of(at->variables, at->table, at->words, at->reading, at->result); }
+static void load(void) { at->answer = olikumpasho_load(at->variables, at->table, at->words, at->capacity, at->desk, at->desk_words); }
+static void well_formed(void) { at->answer = olikumpasho_well_formed(at->desk, at->desk_words); }
+static void decide(void) { at->answer = olikumpasho_decide(at->desk, at->desk_words, at->literal); }
+static void rewrite(void) { at->answer = olikumpasho_rewrite(at->desk, at->desk_words, at->kind, at->named, at->count); }
+static void take_back(void) { at->answer = olikumpasho_take_back(at->desk, at->desk_words); }
+static void bound(void) { at->answer = olikumpasho_bound(at->desk, at->desk_words, at->result); }
+static void search(void) { at->answer = olikumpasho_search(at->desk, at->desk_words, at->budget, at->result); }
+static void read_text(void) { at->answer = olikumpasho_read(at->text, at->text_size, at->table, at->words, at->result); }
+static void write_text(void)
+{
+    at->answer = olikumpasho_write(at->variables, at->budget, at->table, at->words, at->output, at->room, &at->size);
+}
+static void answer_text(void) { at->answer = olikumpasho_answer(at->text, at->text_size, at->output, at->room, &at->size); }
+
+static void fail(const char *what)
+{
+    fprintf(stderr, "%s\n", what);
+    exit(1);
+}
+
+static void *pages(size_t bytes, int sharing)
+{
+    void *p = mmap(NULL, bytes, PROT_READ | PROT_WRITE, sharing | MAP_ANONYMOUS, -1, 0);
+    if (p == MAP_FAILED) fail("no memory");
+    return p;
+}
+
+/* Made by a process aside; it is to be accepted. */
+static void aside(void (*call)(void))
+{
+    int status;
+    pid_t child = fork();
+    if (child == 0) {
+        call();
+        _exit(at->answer == 0 ? 0 : 1);
+    }
+    if (child < 0 || waitpid(child, &status, 0) != child || status != 0) fail("a call aside was not accepted");
+}
+
+/* ---- the stack */
+
+static unsigned char *low, *top;
+static size_t used;
+enum { UNTOUCHED = 0xa5 };
+
+static void make_stack(size_t bytes)
+{
+    size_t whole = (bytes + GUARD - 1) / GUARD * GUARD;
+    unsigned char *guard = pages(GUARD + whole, MAP_PRIVATE);
+    if (mprotect(guard, GUARD, PROT_NONE) != 0) fail("no guard");
+    low = guard + GUARD;
+    top = low + bytes;
+}
+
+static void on_stack(void (*call)(void))
+{
+    for (volatile unsigned char *p = low; p < top; p++) *p = UNTOUCHED;
+    __asm__ volatile("movq %%rsp, %%rbx\n\t"
+                     "movq %0, %%rsp\n\t"
+                     "callq *%1\n\t"
+                     "movq %%rbx, %%rsp"
+                     :
+                     : "r"(top), "r"(call)
+                     : "rax", "rbx", "rcx", "rdx", "rsi", "rdi", "r8", "r9", "r10", "r11", "xmm0", "xmm1", "xmm2", "xmm3", "xmm4", "xmm5",
+                       "xmm6", "xmm7", "xmm8", "xmm9", "xmm10", "xmm11", "xmm12", "xmm13", "xmm14", "xmm15", "memory", "cc");
+    const unsigned char *lowest = low;
+    while (lowest < top && *lowest == UNTOUCHED) lowest++;
+    if ((size_t)(top - lowest) > used) used = (size_t)(top - lowest);
+}
+
+/* The call is to answer this number, 0 where it is accepted. */
+static void expect(const char *what, void (*call)(void), unsigned number)
+{
+    on_stack(call);
+    if (OLIKUMPASHO_NUMBER(at->answer) == number) return;
+    fprintf(stderr, "%s: answered %u, not %u\n", what, OLIKUMPASHO_NUMBER(at->answer), number);
+    exit(1);
+}
+
+/* ---- tables */
+
+static void row(uint64_t positive, uint64_t negative, uint64_t weight)
+{
+    at->table[at->words++] = positive;
+    at->table[at->words++] = negative;
+    at->table[at->words++] = weight;
+}
+
+static void no_rows(uint64_t of)
+{
+    at->variables = of;
+    at->words = 0;
+    at->capacity = CAPACITY;
+}
+
+static uint64_t all(void) { return ~(uint64_t)0 >> (64 - VARIABLES); }
+
+/* The longest text of an admissible table: every literal negative, as many weights of 8 figures as the sum allows, the rest of 7. */
+static void longest_table(void)
+{
+    no_rows(VARIABLES);
+    at->budget = OLIKUMPASHO_MOST_BUDGET;
+    for (int i = 0; i < ROWS; i++) row(0, all(), i < 54 ? 10000000 : 1000000);
+}
+
+/* The walk goes down once, to the last variable, and cuts each second branch. */
+static void deep_table(void)
+{
+    no_rows(VARIABLES);
+    for (int v = 0; v < VARIABLES; v++) row((uint64_t)1 << v, 0, 1);
+    row(all(), 0, OLIKUMPASHO_MOST_WEIGHT - VARIABLES);
+}
+
+/* 1, and (-1, 2), (-2, 3), .. (-8, 9); then -9; (-9, 10), (-9, 11), (-10, -11); and (1, 2), which merges with row 1. */
+static void chained_table(void)
+{
+    no_rows(11);
+    row(1, 0, 4);
+    for (int i = 0; i < OLIKUMPASHO_MOST_CHAIN; i++) row((uint64_t)2 << i, (uint64_t)1 << i, 4);
+    row(0, 1 << 8, 4);
+    row(1 << 9, 1 << 8, 4);
+    row(1 << 10, 1 << 8, 4);
+    row(0, 3 << 9, 4);
+    row(3, 0, 4);
+}
+
+/* By hand: memcpy is left to be found by the call that is looked at. */
+static void copy(volatile void *to, const volatile void *from, size_t bytes)
+{
+    for (size_t i = 0; i < bytes; i++) ((volatile unsigned char *)to)[i] = ((const volatile unsigned char *)from)[i];
+}
+
+/* The text of the table, as an input. */
+static void take_text(void)
+{
+    at->room = sizeof at->output;
+    aside(write_text);
+    copy(at->text, at->output, at->size);
+    at->text_size = at->size;
+}
+
+/* ---- the calls of each function */
+
+static void weigh_them(void)
+{
+    longest_table();
+    at->reading = all();
+    expect("weight", weight_of, 0);
+    at->reading = 0;
+    expect("weight 0", weight_of, 0);
+    at->variables = 3;
+    expect("over the count", weight_of, 5);
+    at->words = 1;
+    expect("words", weight_of, 2);
+}
+
+static void load_them(void)
+{
+    longest_table();
+    expect("load", load, 0);
+    deep_table();
+    expect("load", load, 0);
+    at->table[at->words - 1]++;
+    expect("the sum", load, 7);
+    at->desk_words = 8;
+    expect("a short desk", load, 4);
+}
+
+static void form_them(void)
+{
+    longest_table();
+    aside(load);
+    expect("a full desk", well_formed, 1);
+    at->desk[1] = CAPACITY;
+    expect("rows of 0s", well_formed, 1);
+    at->desk[8] = all();
+    expect("both ways", well_formed, 0);
+}
+
+static void decide_them(void)
+{
+    longest_table();
+    aside(load);
+    for (at->literal = -VARIABLES; at->literal < 0; at->literal++) expect("decide", decide, 0);
+    expect("0", decide, 12);
+    at->literal = 1;
+    expect("decided", decide, 12);
+    at->desk_words = 7;
+    expect("a short desk", decide, 10);
+}
+
+static void name(uint64_t of, const uint64_t *rows, size_t how_many)
+{
+    at->kind = of;
+    at->count = how_many;
+    copy(at->named, rows, how_many * sizeof *rows);
+}
+
+static const uint64_t a_pair[] = {1, 13};
+static const uint64_t a_chain[] = {0, 1, 2, 3, 4, 5, 6, 7, 8, 9};
+static const uint64_t a_fork[] = {0, 1, 2, 3, 4, 5, 6, 7, 8, 10, 11, 12};
+
+static void rewrite_them(void)
+{
+    chained_table();
+    aside(load);
+    name(OLIKUMPASHO_CHAIN, a_chain, 10);
+    expect("chain", rewrite, 0);
+    expect("spent", rewrite, 14);
+    aside(load);
+    name(OLIKUMPASHO_FORK, a_fork, 12);
+    expect("fork", rewrite, 0);
+    aside(load);
+    name(OLIKUMPASHO_SHIFT, a_chain, 2);
+    expect("shift", rewrite, 0);
+    aside(load);
+    name(OLIKUMPASHO_MERGE, a_pair, 2);
+    expect("merge", rewrite, 0);
+    name(OLIKUMPASHO_MERGE, a_fork + 8, 2);
+    expect("no merge", rewrite, 14);
+    at->named[0] = at->named[1];
+    expect("twice", rewrite, 13);
+    no_rows(1);
+    row(1, 0, 1);
+    row(0, 1, 1);
+    aside(load);
+    name(OLIKUMPASHO_MERGE, a_chain, 2);
+    expect("an empty rest", rewrite, 0);
+    at->desk_words = 7;
+    expect("a short desk", rewrite, 10);
+}
+
+static void take_them_back(void)
+{
+    chained_table();
+    aside(load);
+    at->literal = 1;
+    aside(decide);
+    expect("a decision", take_back, 0);
+    expect("nothing", take_back, 16);
+    name(OLIKUMPASHO_FORK, a_fork, 12);
+    aside(rewrite);
+    expect("a fork", take_back, 0);
+    name(OLIKUMPASHO_CHAIN, a_chain, 10);
+    aside(rewrite);
+    expect("a chain", take_back, 0);
+    name(OLIKUMPASHO_MERGE, a_pair, 2);
+    aside(rewrite);
+    expect("a merge", take_back, 0);
+    aside(rewrite);
+    at->desk[8 + 3 * CAPACITY] = 9;
+    expect("a bad entry", take_back, 10);
+}
+
+static void bound_them(void)
+{
+    longest_table();
+    aside(load);
+    expect("bound", bound, 0);
+    deep_table();
+    aside(load);
+    expect("bound", bound, 0);
+    at->desk_words = 7;
+    expect("a short desk", bound, 10);
+}
+
+static void search_them(void)
+{
+    deep_table();
+    aside(load);
+    for (at->budget = 0; at->budget <= 130; at->budget++) expect("search", search, 0);
+    if (at->result[OLIKUMPASHO_FOUND_STATUS] != OLIKUMPASHO_DONE || at->result[OLIKUMPASHO_FOUND_NODES] != 2 * VARIABLES + 1)
+        fail("search: not down to the last variable");
+    at->desk_words = 7;
+    expect("a short desk", search, 10);
+}
+
+static void read_them(void)
+{
+    longest_table();
+    take_text();
+    at->words = sizeof at->table / sizeof *at->table;
+    expect("read", read_text, 0);
+    at->words--;
+    expect("no room", read_text, 4);
+    at->words++;
+    at->text_size--;
+    expect("unended", read_text, 20);
+    at->text[5] = 'x';
+    expect("no number", read_text, 20);
+}
+
+static void write_them(void)
+{
+    longest_table();
+    at->room = sizeof at->output;
+    expect("write", write_text, 0);
+    if (at->size != OLIKUMPASHO_MOST_WRITTEN) fail("write: the longest text is not as long as the header says");
+    at->room--;
+    expect("no room", write_text, 4);
+    at->variables = 3;
+    expect("over the count", write_text, 5);
+}
+
+static void answer_them(void)
+{
+    deep_table();
+    for (at->budget = VARIABLES - 1; at->budget <= 2 * VARIABLES + 2; at->budget++) {
+        take_text();
+        expect("answer", answer_text, 0);
+    }
+    at->room = 10;
+    expect("no room", answer_text, 4);
+    at->room = OLIKUMPASHO_MOST_ANSWERED;
+    at->text_size--;
+    expect("unended", answer_text, 0);
+    at->text_size = sizeof at->text;
+    expect("too long", answer_text, 0);
+}
+
+/* ---- nothing lent, by null pointers */
+
+static void told(const char *what, uint64_t answer_given, unsigned number, uint64_t place)
+{
+    if (OLIKUMPASHO_NUMBER(answer_given) == number && OLIKUMPASHO_PLACE(answer_given) == place) return;
+    fprintf(stderr, "%s: answered %u, not %u\n", what, OLIKUMPASHO_NUMBER(answer_given), number);
+    exit(1);
+}
+
+static void nulls(void)
+{
+    static const uint8_t bare[] = "vars=0\nbudget=1\nrows=0\n";
+    uint64_t *desk = at->desk, *result = at->result;
+    size_t most = at->desk_words;
+    told("weight_of", olikumpasho_weight_of(0, NULL, 0, 0, result), 0, 0);
+    told("load, no desk", olikumpasho_load(0, NULL, 0, 0, NULL, 0), OLIKUMPASHO_NO_ROOM, 0);
+    told("load", olikumpasho_load(0, NULL, 0, 0, desk, most), 0, 0);
+    told("well_formed", olikumpasho_well_formed(NULL, 0), 0, 0);
+    told("decide", olikumpasho_decide(NULL, 0, 1), OLIKUMPASHO_BAD_DESK, 0);
+    told("rewrite", olikumpasho_rewrite(NULL, 0, OLIKUMPASHO_MERGE, NULL, 0), OLIKUMPASHO_BAD_DESK, 0);
+    told("rewrite, no rows", olikumpasho_rewrite(desk, most, OLIKUMPASHO_MERGE, NULL, 0), OLIKUMPASHO_BAD_NAMING, 0);
+    told("take_back", olikumpasho_take_back(NULL, 0), OLIKUMPASHO_BAD_DESK, 0);
+    told("bound", olikumpasho_bound(NULL, 0, result), OLIKUMPASHO_BAD_DESK, 0);
+    told("search", olikumpasho_search(NULL, 0, 1, result), OLIKUMPASHO_BAD_DESK, 0);
+    told("read, no text", olikumpasho_read(NULL, 0, NULL, 0, result), OLIKUMPASHO_BAD_TEXT, 1);
+    told("read", olikumpasho_read(bare, sizeof bare - 1, NULL, 0, result), 0, 0);
+    told("write, no room", olikumpasho_write(0, 1, NULL, 0, NULL, 0, &at->size), OLIKUMPASHO_NO_ROOM, 0);
+    told("write", olikumpasho_write(0, 1, NULL, 0, at->output, sizeof at->output, &at->size), 0, 0);
+    if (at->size != sizeof bare - 1 || memcmp(at->output, bare, at->size) != 0) fail("write: not the text of no rows");
+    told("answer, no room", olikumpasho_answer(NULL, 0, NULL, 0, &at->size), OLIKUMPASHO_NO_ROOM, 0);
+    told("answer", olikumpasho_answer(NULL, 0, at->output, sizeof at->output, &at->size), 0, 0);
+}
+
+static const struct {
+    const char *name;
+    size_t stated;
+    void (*calls)(void);
+} functions[] = {
+    {"weight_of", OLIKUMPASHO_STACK_WEIGHT_OF, weigh_them}, {"load", OLIKUMPASHO_STACK_LOAD, load_them},
+    {"well_formed", OLIKUMPASHO_STACK_WELL_FORMED, form_them}, {"decide", OLIKUMPASHO_STACK_DECIDE, decide_them},
+    {"rewrite", OLIKUMPASHO_STACK_REWRITE, rewrite_them}, {"take_back", OLIKUMPASHO_STACK_TAKE_BACK, take_them_back},
+    {"bound", OLIKUMPASHO_STACK_BOUND, bound_them}, {"search", OLIKUMPASHO_STACK_SEARCH, search_them},
+    {"read", OLIKUMPASHO_STACK_READ, read_them}, {"write", OLIKUMPASHO_STACK_WRITE, write_them},
+    {"answer", OLIKUMPASHO_STACK_ANSWER, answer_them},
+};
+enum { FUNCTIONS = sizeof functions / sizeof *functions };
+
+int main(int given, char **arguments)
+{
+    at = pages(sizeof *at, MAP_SHARED);
+    at->desk_words = sizeof at->desk / sizeof *at->desk;
+    if (given == 2 && strcmp(arguments[1], "nulls") == 0) {
+        nulls();
+        return 0;
+    }
+    for (int i = 0; i < FUNCTIONS; i++) {
+        if (given == 1) {
+            printf("%s %zu\n", functions[i].name, functions[i].stated);
+        } else if (given == 3 && strcmp(arguments[1], functions[i].name) == 0) {
+            make_stack((size_t)strtoull(arguments[2], NULL, 10));
+            functions[i].calls();
+            printf("%zu\n", used);
+            return 0;
+        }
+    }
+    return given == 1 ? 0 : 2;
+}
