@@ -298,7 +298,7 @@ static void spoil_table(struct chance *c, struct draft *d, word *count)
     case 0: d->words[row + 2] = odd_word(c); break;
     case 1: d->words[row + draw(c) % 2] ^= flipped; break;
     case 2: d->words[row + 1] |= d->words[row]; break;
-    case 3: *count -= between(c, 1, 2); break;
+    case 3: *count -= *count < 2 ? 0 : between(c, 1, 2); break;
     default: bring_sum_to_limit(d, draw(c) % 2); break;
     }
 }
@@ -317,7 +317,8 @@ static void run_loads(struct run *r)
         emit(r, "lend %" PRIu64 " %" PRIu64, one_in(c, 6) ? draw(c) % 4200 : size + draw(c) % 3 - 1, fill);
         emit(r, "load %" PRIu64 " %" PRIu64, one_in(c, 8) ? odd_word(c) : d.variables, capacity);
         emit(r, "weight %" PRIu64 " %" PRIu64, d.variables, draw(c) % 256);
-        emit(r, "write %" PRIu64 " 7 %" PRIu64 " 170", one_in(c, 8) ? odd_word(c) : d.variables, room);
+        word budget = one_in(c, 2) ? MOST_BUDGET : draw(c) % ((word)MOST_BUDGET + 1);
+        emit(r, "write %" PRIu64 " %" PRIu64 " %" PRIu64 " 170", one_in(c, 8) ? odd_word(c) : d.variables, budget, room);
         emit(r, "wellformed");
         emit(r, "bound");
     }
@@ -366,27 +367,29 @@ static void run_texts(struct run *r)
     }
 }
 
-static const struct {
+struct run_family {
     const char *name;
     void (*make)(struct run *r);
-} run_families[] = {
+};
+
+static const struct run_family run_families[] = {
     {"ordinary", run_ordinary}, {"tight", run_tight},   {"long-links", run_long_links}, {"poked", run_poked},
     {"short", run_short},       {"loads", run_loads},   {"wide", run_wide},             {"limits", run_limits},
     {"texts", run_texts},       {"ordinary", run_ordinary}, {"tight", run_tight},       {"poked", run_poked},
 };
 enum { RUN_FAMILIES = sizeof run_families / sizeof *run_families };
 
-static int generate_runs(word seed, int count, const char *dir)
+#include "full_runs.c"
+
+static int generate_runs(word seed, int count, const char *dir, bool full)
 {
     struct run r = {.chance = {seed}};
     for (int i = 0; i < count; i++) {
-        bool ledger = i % 60 == 59; /* long, and one is like another */
-        const char *name = ledger ? "ledger" : run_families[i % RUN_FAMILIES].name;
-        r.out = open_case(dir, i, name, "run");
+        const struct run_family *f = full ? &full_families[i % FULL_FAMILIES] : &run_families[i % RUN_FAMILIES];
+        r.out = open_case(dir, i, f->name, "run");
         if (r.out == NULL) return 2;
         r.bench = new_bench();
-        if (ledger) run_ledger(&r);
-        else run_families[i % RUN_FAMILIES].make(&r);
+        f->make(&r);
         emit(&r, "words 0 %" PRIu64, r.bench.lent_count);
         end_bench(&r.bench);
         fclose(r.out);

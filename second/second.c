@@ -1,9 +1,12 @@
 /* A second solver for document 01, to be compared with the project's own. It shares no code with it.
 
      second answer < TEXT                      the program's answer
+     second answer FILE..                      each file's, to FILE.expected
      second desk < SCRIPT                      a script of calls on a desk (the language is at the top of script.c)
+     second desk FILE..                        each file's, to FILE.expected
      second generate texts SEED COUNT DIR      COUNT texts, DIR/00000-KIND.txt and on; DIR must exist
      second generate runs SEED COUNT DIR       COUNT scripts, DIR/00000-KIND.run and on
+     second generate full-texts SEED COUNT DIR and full-runs: the same at the limits
      second selftest                           checks of the model against document 01 and against enumeration
      second vectors FILE                       the worked examples of the source documents
      second scripts FILE DIR                   the calls of each of them, DIR/00000-vector.run and on
@@ -25,32 +28,56 @@
 #include "selftest.c"
 #include "vectors.c"
 
-static int run_answer(void)
+static int run_answer(FILE *in, FILE *to)
 {
     char out[MOST_ANSWER];
     size_t length;
-    char *input = read_all(stdin, &length);
+    char *input = read_all(in, &length);
     size_t written = program_answer((const unsigned char *)input, length, out);
-    fwrite(out, 1, written, stdout);
+    bool whole = fwrite(out, 1, written, to) == written;
     free(input);
+    return whole ? 0 : 2;
+}
+
+static int run_desk(FILE *in, FILE *to)
+{
+    size_t length;
+    char *script = read_all(in, &length);
+    int result = run_script(script, to);
+    free(script);
+    return result;
+}
+
+static int each_file(int (*run)(FILE *in, FILE *to), char **names)
+{
+    for (; *names != NULL; names++) {
+        char expected[4096];
+        snprintf(expected, sizeof expected, "%s.expected", *names);
+        FILE *in = fopen(*names, "rb"), *to = fopen(expected, "wb");
+        if (in == NULL || to == NULL) return 2;
+        int result = run(in, to);
+        fclose(in);
+        if (fclose(to) != 0 || result != 0) return 2;
+    }
     return 0;
 }
 
-static int run_desk(void)
+/* From standard input to standard output, or each of the files. */
+static int run_on(int (*run)(FILE *in, FILE *to), char **names)
 {
-    size_t length;
-    char *script = read_all(stdin, &length);
-    int result = run_script(script, stdout);
-    free(script);
-    return result;
+    if (*names != NULL) return each_file(run, names);
+    int result = run(stdin, stdout);
+    return fflush(stdout) == 0 ? result : 2;
 }
 
 static int run_generate(char **words)
 {
     word seed = strtoull(words[1], NULL, 10);
     int count = atoi(words[2]);
-    if (strcmp(words[0], "texts") == 0) return generate_texts(seed, count, words[3]);
-    if (strcmp(words[0], "runs") == 0) return generate_runs(seed, count, words[3]);
+    bool full = strncmp(words[0], "full-", 5) == 0;
+    const char *what = words[0] + (full ? 5 : 0);
+    if (strcmp(what, "texts") == 0) return generate_texts(seed, count, words[3], full);
+    if (strcmp(what, "runs") == 0) return generate_runs(seed, count, words[3], full);
     return 2;
 }
 
@@ -69,12 +96,12 @@ static int run_vectors(const char *name, const char *dir)
 
 int main(int count, char **words)
 {
-    if (count == 2 && strcmp(words[1], "answer") == 0) return run_answer();
-    if (count == 2 && strcmp(words[1], "desk") == 0) return run_desk();
+    if (count >= 2 && strcmp(words[1], "answer") == 0) return run_on(run_answer, words + 2);
+    if (count >= 2 && strcmp(words[1], "desk") == 0) return run_on(run_desk, words + 2);
     if (count == 6 && strcmp(words[1], "generate") == 0) return run_generate(words + 2);
     if (count == 2 && strcmp(words[1], "selftest") == 0) return selftest();
     if (count == 3 && strcmp(words[1], "vectors") == 0) return run_vectors(words[2], NULL);
     if (count == 4 && strcmp(words[1], "scripts") == 0) return run_vectors(words[2], words[3]);
-    fputs("second answer | desk | generate texts|runs SEED COUNT DIR | selftest | vectors FILE | scripts FILE DIR\n", stderr);
+    fputs("second answer|desk [FILE..] | generate [full-]texts|runs SEED COUNT DIR | selftest | vectors FILE | scripts FILE DIR\n", stderr);
     return 2;
 }

@@ -194,6 +194,7 @@ static const struct family families[] = {
 enum { FAMILIES = sizeof families / sizeof *families };
 
 #include "damage.c"
+#include "full_texts.c"
 
 static FILE *open_case(const char *dir, int number, const char *kind, const char *end)
 {
@@ -223,13 +224,14 @@ static void make_text(struct chance *c, int number, struct lines *l, char *kind)
     }
 }
 
-static int generate_texts(word seed, int count, const char *dir)
+static int generate_texts(word seed, int count, const char *dir, bool full)
 {
     static struct lines l;
     struct chance c = {seed};
     char kind[100];
     for (int i = 0; i < count; i++) {
-        make_text(&c, i, &l, kind);
+        if (full) make_full_text(&c, i, &l, kind);
+        else make_text(&c, i, &l, kind);
         FILE *out = open_case(dir, i, kind, "txt");
         if (out == NULL) return 2;
         write_lines(&l, out);

@@ -1,6 +1,6 @@
 /* Part of second.c: runs the vectors of the source documents. The form of a line is explained at the top of vectors.txt. */
 
-enum { VECTOR_FIELDS = 6, LEAST_VECTORS = 15 };
+enum { VECTOR_FIELDS = 6, LEAST_VECTORS = 72 };
 static const char *const vector_kinds[] = {"decide", "merge", "shift", "chain", "fork"};
 
 static char *without_spaces(char *text)
@@ -180,8 +180,12 @@ static int check_vectors(char *text)
         else failed++;
         if (wrong != NULL) printf("%s, %s: %s\n", fields[0], fields[1], wrong);
     }
+    if (passed + failed < LEAST_VECTORS) {
+        printf("there are %d vectors, and %d are to be\n", passed + failed, LEAST_VECTORS);
+        failed++;
+    }
     printf("%d passed, %d failed\n", passed, failed);
-    return failed == 0 && passed >= LEAST_VECTORS ? 0 : 1;
+    return failed == 0 ? 0 : 1;
 }
 
 static int write_scripts(char *text, const char *dir)

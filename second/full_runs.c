@@ -1,0 +1,666 @@
+/* Part of runs.c: runs at document 01's limits. Full tables and desks, the longest chains and forks, 255 and 256 standing steps, 64
+   variables, sums at the limit; and each clause of well formed, and of a bad last entry, broken alone. A line `# meets NAME` says what the
+   call behind it is there for, so that a test can count what was met. */
+
+static void meets(struct run *r, const char *name) { emit(r, "# meets %s", name); }
+
+static word *lent_words(struct run *r) { return r->bench.lent; }
+
+static void poke(struct run *r, word index, word value) { emit(r, "poke %" PRIu64 " %" PRIu64, index, value); }
+
+static word row_word(word row, word which) { return HEAD_WORDS + ROW_WORDS * row + which; }
+
+/* The index of a word of the last entry. */
+static word last_entry(struct run *r, word which)
+{
+    return HEAD_WORDS + ROW_WORDS * lent_words(r)[CAPACITY] + ENTRY_WORDS * (lent_words(r)[STEPS] - 1) + which;
+}
+
+/* A call on the desk with one word poked, which is put back afterwards. */
+static void with_poked(struct run *r, const char *name, word index, word value, const char *call)
+{
+    word before = lent_words(r)[index];
+    poke(r, index, value);
+    meets(r, name);
+    emit(r, "%s", call);
+    poke(r, index, before);
+}
+
+static word weights_on_desk(struct run *r)
+{
+    word all = 0;
+    for (word row = 0; row < lent_words(r)[IN_USE]; row++) all += lent_words(r)[row_word(row, 2)];
+    return all;
+}
+
+static void emit_rows_from(struct run *r, word kind, word first, word count)
+{
+    word named[16];
+    for (word i = 0; i < count; i++) named[i] = first + i;
+    emit_rewrite(r, kind, named, count);
+}
+
+/* --- a bad last entry --- */
+
+static void spoil_named(struct run *r)
+{
+    struct chance *c = &r->chance;
+    const word *entry = lent_words(r) + last_entry(r, 0);
+    word count = entry[ENTRY_COUNT], first = entry[ENTRY_FIRST_NEW];
+    for (word j = 1; j < count; j++) {
+        word i = j == count - 1 ? draw(c) % j : 0;
+        with_poked(r, j == MOST_NAMED - 1 ? "entry, twelfth row repeated" : "entry, a row repeated",
+                   last_entry(r, ENTRY_ROWS + j), entry[ENTRY_ROWS + i], "back");
+    }
+    for (word j = 0; j < count; j += count - 1)
+        with_poked(r, "entry, a row not below the first new", last_entry(r, ENTRY_ROWS + j), first, "back");
+    word j = draw(c) % count, far = odd_word(c) | first;
+    with_poked(r, "entry, a row not below the first new", last_entry(r, ENTRY_ROWS + j), far, "back");
+}
+
+static void spoil_counts(struct run *r)
+{
+    static const word wrong[][4] = {{0}, {1, 3, 0, 12}, {1, 3, 0, 4}, {1, 11, 0, 12}, {3, 13, 2, ~(word)0}};
+    word kind = lent_words(r)[last_entry(r, ENTRY_KIND)], count = lent_words(r)[last_entry(r, ENTRY_COUNT)];
+    for (int i = 0; i < 4; i++) with_poked(r, "entry, count wrong for the kind", last_entry(r, ENTRY_COUNT), wrong[kind][i], "back");
+    if (kind >= CHAIN && count < MOST_NAMED - 2)
+        with_poked(r, "entry, rows above not what the kind adds", last_entry(r, ENTRY_COUNT), count + 1, "back");
+}
+
+static void spoil_new_rows(struct run *r)
+{
+    word first = lent_words(r)[last_entry(r, ENTRY_FIRST_NEW)], in_use = lent_words(r)[IN_USE];
+    word place = last_entry(r, ENTRY_FIRST_NEW), kind = lent_words(r)[last_entry(r, ENTRY_KIND)];
+    if (in_use > first) with_poked(r, "entry, first new row below those loaded", LOADED, first + 1, "back");
+    with_poked(r, "entry, first new row past those in use", place, in_use + 1, "back");
+    with_poked(r, "entry, first new row past those in use", place, ~(word)0, "back");
+    if (kind != MERGE) with_poked(r, "entry, rows above not what the kind adds", place, first + 1, "back");
+    with_poked(r, "entry, rows above not what the kind adds", place, kind == MERGE ? in_use - 2 : first - 1, "back");
+}
+
+/* What taking back adds to the sum of (d), w for every kind but a shift. */
+static void spoil_weights(struct run *r, bool conceded)
+{
+    word w = lent_words(r)[last_entry(r, ENTRY_WEIGHT)], place = last_entry(r, ENTRY_WEIGHT), kind = lent_words(r)[last_entry(r, ENTRY_KIND)];
+    word more = MOST_WEIGHT - weights_on_desk(r) - (kind == SHIFT ? 0 : w);
+    if (conceded) {
+        with_poked(r, "entry, conceded less than the step added", CONCEDED, w - 1, "back");
+        with_poked(r, "entry, conceded less than the step added", place, lent_words(r)[CONCEDED] + 1, "back");
+    } else {
+        with_poked(r, "entry, (d) broken afterwards", place, (word)1 << 63, "back");
+        with_poked(r, "entry, (d) broken afterwards", place, ~(word)0, "back");
+    }
+    if (kind == SHIFT) return;
+    with_poked(r, lent_words(r)[last_entry(r, ENTRY_COUNT)] == MOST_NAMED ? "entry, (d) broken by the twelfth row" : "entry, (d) broken afterwards",
+               CONCEDED, more + 1, "back");
+    if (one_in(&r->chance, 3)) {
+        word before = lent_words(r)[CONCEDED];
+        poke(r, CONCEDED, more);
+        meets(r, "entry, (d) just kept");
+        emit(r, "back");
+        poke(r, CONCEDED, before - (conceded ? w : 0));
+    }
+}
+
+/* The last step, of a rewriting, with its entry broken in each way, then taken back with words in it that do not matter. */
+static void spoil_rewriting(struct run *r, bool conceded)
+{
+    struct chance *c = &r->chance;
+    word steps = lent_words(r)[STEPS], count = lent_words(r)[last_entry(r, ENTRY_COUNT)];
+    with_poked(r, "entry, kind above 4", last_entry(r, ENTRY_KIND), 5, "back");
+    with_poked(r, "entry, kind above 4", last_entry(r, ENTRY_KIND), odd_word(c) | 8, "back");
+    spoil_named(r);
+    spoil_counts(r);
+    spoil_new_rows(r);
+    spoil_weights(r, conceded);
+    if (lent_words(r)[STEPS] < steps) return;
+    word odd = odd_word(c);
+    if (count < MOST_NAMED) poke(r, last_entry(r, ENTRY_ROWS + count + draw(c) % (MOST_NAMED - count)), odd);
+    if (!conceded && one_in(c, 2)) poke(r, last_entry(r, ENTRY_WEIGHT), 0);
+    meets(r, "entry, taken as it is");
+    emit(r, "back");
+}
+
+static void run_decision_entries(struct run *r)
+{
+    struct chance *c = &r->chance;
+    struct draft d = {.variables = between(c, 3, MOST_VARIABLES - 1)};
+    add_mixed_rows(c, &d, 5, 9);
+    start_desk(r, &d, 2, 0);
+    word v = one_in(c, 3) ? 1 : between(c, 1, d.variables), undecided = v % d.variables + 1; /* 1, beside which 65 would be taken for it */
+    emit(r, "decide %s%" PRIu64, one_in(c, 2) ? "-" : "", v);
+    word bad[] = {0, undecided, d.variables + 1, 64, 65, v + 64, v + 128, ((word)1 << 32) + v, ((word)1 << 63) + v, ~(word)0};
+    for (int i = 0; i < 10; i++)
+        with_poked(r, "entry, a decision on a variable not decided", last_entry(r, ENTRY_VARIABLE), bad[i], "back");
+    with_poked(r, "entry, kind above 4", last_entry(r, ENTRY_KIND), 5, "back");
+    with_poked(r, "entry, count wrong for the kind", last_entry(r, ENTRY_KIND), 1, "back");
+    poke(r, last_entry(r, ENTRY_VALUE), 7);
+    word odd = odd_word(c);
+    poke(r, last_entry(r, between(c, 3, 15)), odd);
+    meets(r, "entry, taken as it is");
+    emit(r, "back");
+}
+
+static void run_entries(struct run *r)
+{
+    struct chance *c = &r->chance;
+    struct draft d = {.variables = between(c, 12, MOST_VARIABLES)};
+    word k = between(c, 0, MOST_LINKS), rows;
+    add_row(&d, pair_row(1, 2), 9);
+    add_row(&d, pair_row(-1, 2), 5);
+    add_row(&d, unit_row(3), 5);
+    add_row(&d, unit_row(-3), 7);
+    add_row(&d, unit_row(4), 5);
+    add_row(&d, pair_row(-4, 5), 6);
+    add_row(&d, unit_row(6), 900);
+    add_row(&d, pair_row(-6, 7), 900);
+    rows = d.rows;
+    add_chain(c, &d, k, 9);
+    add_fork(c, &d, one_in(c, 2) ? (word)MOST_LINKS : k, 9);
+    start_desk(r, &d, 60, one_in(c, 2));
+    emit_rows_from(r, SHIFT, 6, 2); /* so that rows stand between those loaded and the first new one */
+    emit_rows_from(r, MERGE, 0, 2);
+    spoil_rewriting(r, false);
+    emit_rows_from(r, MERGE, 2, 2);
+    spoil_rewriting(r, true);
+    emit_rows_from(r, SHIFT, 4, 2);
+    spoil_rewriting(r, false);
+    emit_rows_from(r, CHAIN, rows, k + 2);
+    spoil_rewriting(r, true);
+    emit_rows_from(r, FORK, rows + k + 2, d.rows - rows - k - 2);
+    spoil_rewriting(r, true);
+    take_all_back(r);
+}
+
+/* --- not well formed --- */
+
+static const char *any_desk_call(struct chance *c)
+{
+    static const char *const calls[] = {"wellformed", "decide 1", "rewrite 1 0 1", "back", "bound", "search 9"};
+    return calls[draw(c) % 6];
+}
+
+static void unformed(struct run *r, const char *name, word index, word value)
+{
+    with_poked(r, name, index, value, "wellformed");
+    with_poked(r, name, index, value, any_desk_call(&r->chance));
+}
+
+static void unformed_sums(struct run *r)
+{
+    const word *d = lent_words(r);
+    word all = weights_on_desk(r), conceded = d[CONCEDED], last = d[IN_USE] - 1;
+    with_poked(r, "(d) just kept", CONCEDED, MOST_WEIGHT - all, "wellformed");
+    unformed(r, "(d) over by one", CONCEDED, MOST_WEIGHT - all + 1);
+    unformed(r, "(d) wraps", CONCEDED, ~(word)0 - all + 1);
+    unformed(r, "(d) over by one", row_word(last, 2), MOST_WEIGHT - all - conceded + d[row_word(last, 2)] + 1);
+    with_poked(r, "(d) just kept", row_word(last, 2), MOST_WEIGHT - all - conceded + d[row_word(last, 2)], "wellformed");
+    unformed(r, "(d) wraps", row_word(last, 2), ~(word)0 - all - conceded + d[row_word(last, 2)] + 1);
+}
+
+/* The bit of one, the last as often as all others. */
+static word any_variable(struct chance *c, word variables) { return (word)1 << (one_in(c, 2) ? variables - 1 : draw(c) % variables); }
+
+static void unformed_rows(struct run *r)
+{
+    const word *d = lent_words(r);
+    word rows[] = {0, d[IN_USE] - 1, draw(&r->chance) % d[IN_USE]};
+    for (int i = 0; i < 3; i++) {
+        word row = rows[i], bit = any_variable(&r->chance, d[VARIABLES]);
+        word positive = d[row_word(row, 0)];
+        poke(r, row_word(row, 0), positive | bit);
+        unformed(r, "(c) both ways", row_word(row, 1), d[row_word(row, 1)] | bit);
+        poke(r, row_word(row, 0), positive);
+        if (d[VARIABLES] == MOST_VARIABLES) continue;
+        unformed(r, "(c) above the count", row_word(row, draw(&r->chance) % 2), (word)1 << d[VARIABLES]);
+        unformed(r, "(c) above the count", row_word(row, draw(&r->chance) % 2), (word)1 << 63);
+    }
+    if (d[IN_USE] < d[CAPACITY]) with_poked(r, "a row not in use is not looked at", row_word(d[IN_USE], 2), ~(word)0, "wellformed");
+}
+
+static void unformed_masks(struct run *r)
+{
+    word variables = lent_words(r)[VARIABLES], decided = lent_words(r)[DECIDED];
+    for (word v = 0; v < variables; v++) {
+        if ((decided >> v & 1) != 0 || !(v == 0 || v == variables - 1 || one_in(&r->chance, 9))) continue;
+        unformed(r, "(e) true and not decided", DECIDED_TRUE, lent_words(r)[DECIDED_TRUE] | (word)1 << v);
+    }
+    if (variables == MOST_VARIABLES) return;
+    unformed(r, "(e) decided above the count", DECIDED, decided | (word)1 << variables);
+    unformed(r, "(e) decided above the count", DECIDED, decided | (word)1 << 63);
+}
+
+/* The desk that stands, of in use rows at least one, broken in each way. */
+static void break_desk(struct run *r)
+{
+    const word *d = lent_words(r);
+    word size = desk_size(d[CAPACITY]);
+    emit(r, "reach %" PRIu64, size - 1);
+    meets(r, "(a) a word too few");
+    emit(r, "wellformed");
+    meets(r, "(a) a word too few");
+    emit(r, "%s", any_desk_call(&r->chance));
+    emit(r, "reach %" PRIu64, r->bench.lent_count);
+    if (r->bench.lent_count < size + ROW_WORDS) unformed(r, "(a) C too large for the words", CAPACITY, d[CAPACITY] + 1);
+    unformed(r, "(a) C over its limit", CAPACITY, MOST_CAPACITY + 1);
+    unformed(r, "(a) C over its limit", CAPACITY, ~(word)0 / 3);
+    unformed(r, "(b) variables", VARIABLES, MOST_VARIABLES + 1);
+    unformed(r, "(b) more loaded than in use", LOADED, d[IN_USE] + 1);
+    if (d[IN_USE] > MOST_LOADED) {
+        with_poked(r, "(b) 512 rows loaded", LOADED, MOST_LOADED, "wellformed");
+        unformed(r, "(b) 513 rows loaded", LOADED, MOST_LOADED + 1);
+        unformed(r, "(b) 513 rows loaded", LOADED, d[IN_USE]);
+    }
+    if (d[IN_USE] == d[CAPACITY] && d[STEPS] == 0) unformed(r, "(b) more in use than C", IN_USE, d[CAPACITY] + 1);
+    unformed(r, "(b) more in use than C", IN_USE, ~(word)0);
+    with_poked(r, "(b) 256 steps", STEPS, MOST_STEPS, "wellformed");
+    unformed(r, "(b) 257 steps", STEPS, MOST_STEPS + 1);
+    unformed_rows(r);
+    unformed_sums(r);
+    unformed_masks(r);
+}
+
+static void run_unformed(struct run *r)
+{
+    struct chance *c = &r->chance;
+    struct draft d = {.variables = one_in(c, 3) ? (word)MOST_VARIABLES : between(c, 2, 63)};
+    add_mixed_rows(c, &d, one_in(c, 9) ? (word)MOST_LOADED : between(c, 2, 30), 9);
+    word spare = one_in(c, 2) ? 0 : one_in(c, 2) ? (word)MOST_CAPACITY : between(c, 0, 9), past = one_in(c, 2) ? 0 : 5;
+    start_desk(r, &d, spare, past);
+    if (one_in(c, 2)) call_many(r, 6);
+    break_desk(r);
+    call_many(r, 4);
+}
+
+/* --- full tables --- */
+
+static void full_draft(struct chance *c, struct draft *d, word rows)
+{
+    d->variables = one_in(c, 4) ? 63 : MOST_VARIABLES;
+    for (word i = 0; i < rows; i++) {
+        word length = one_in(c, 4) ? between(c, 5, d->variables) : between(c, 0, 4), weight = between(c, 1, 1000);
+        add_row(d, draw_clause(c, d->variables, length), weight);
+    }
+}
+
+static void call_table(struct run *r, const struct draft *d, const char *name)
+{
+    struct chance *c = &r->chance;
+    static const word budgets[] = {0, 1, 7, 4294967294, 4294967295, 1000000000, 4000000000};
+    word reading = draw(c), budget = budgets[draw(c) % 7];
+    if (d->variables < MOST_VARIABLES) reading %= (word)1 << (d->variables % 64);
+    meets(r, name);
+    emit(r, "weight %" PRIu64 " %" PRIu64, d->variables, reading);
+    meets(r, name);
+    emit(r, "write %" PRIu64 " %" PRIu64 " 140000 170", d->variables, budget);
+    meets(r, name);
+    emit(r, "load %" PRIu64 " %" PRIu64, d->variables, d->rows > MOST_LOADED ? (word)MOST_CAPACITY : between(c, d->rows, MOST_CAPACITY));
+}
+
+static void run_full_table(struct run *r)
+{
+    struct chance *c = &r->chance;
+    static struct draft d, bad;
+    d = (struct draft){0};
+    full_draft(c, &d, MOST_LOADED);
+    word past = draw(c) % 2;
+    emit(r, "lend %" PRIu64 " %" PRIu64, MOST_DESK + past, odd_word(c));
+    emit_table(r, d.words, ROW_WORDS * d.rows);
+    call_table(r, &d, "512 rows");
+    emit(r, "bound");
+    emit(r, "search %" PRIu64, between(c, 0, 200));
+    emit(r, "weight %" PRIu64 " %" PRIu64, d.variables, ~(word)0);
+    emit(r, "load %" PRIu64 " %d", d.variables, MOST_LOADED - 1);
+    emit(r, "load %" PRIu64 " %d", d.variables, MOST_CAPACITY + 1);
+    emit_table(r, d.words, ROW_WORDS * d.rows - 1);
+    call_table(r, &d, "not a multiple of 3");
+    bad = d;
+    full_draft(c, &bad, 1);
+    emit_table(r, bad.words, ROW_WORDS * bad.rows);
+    call_table(r, &bad, "513 rows");
+    bad = d;
+    word row = one_in(c, 2) ? (word)MOST_LOADED - 1 : draw(c) % MOST_LOADED, bit = any_variable(c, d.variables);
+    bad.words[ROW_WORDS * row] |= bit, bad.words[ROW_WORDS * row + 1] |= bit;
+    if (one_in(c, 2)) bad.words[ROW_WORDS * row + 2] = 0;
+    emit_table(r, bad.words, ROW_WORDS * bad.rows);
+    call_table(r, &bad, "a row both ways");
+    bad = d;
+    row = one_in(c, 2) ? (word)MOST_LOADED - 1 : draw(c) % MOST_LOADED;
+    bad.words[ROW_WORDS * row + 2] = one_in(c, 2) ? 0 : (word)MOST_WEIGHT + 1;
+    emit_table(r, bad.words, ROW_WORDS * bad.rows);
+    call_table(r, &bad, "a bad weight");
+}
+
+/* Weights whose sum first passes the limit in a given row, and those that just reach it there. */
+static void run_sums(struct run *r)
+{
+    struct chance *c = &r->chance;
+    static const word places[] = {1, 2, 11, 12, 13, 100, 510, 511};
+    word place = places[draw(c) % 8], rows = one_in(c, 2) ? place + 1 : between(c, place + 1, MOST_LOADED), all = 0;
+    static struct draft d;
+    d = (struct draft){.variables = between(c, 1, MOST_VARIABLES)};
+    add_mixed_rows(c, &d, rows, 900000);
+    for (word i = 0; i < place; i++) all += d.words[ROW_WORDS * i + 2];
+    for (word i = place + 1; i < rows; i++) all += d.words[ROW_WORDS * i + 2] = 1;
+    emit(r, "lend %d 5", MOST_DESK);
+    for (word over = 0; over < 3; over++) {
+        d.words[ROW_WORDS * place + 2] = MOST_WEIGHT + over - all;
+        emit_table(r, d.words, ROW_WORDS * rows);
+        call_table(r, &d, over == 0 ? "sum at the limit" : "sum over the limit");
+    }
+    if (place == 11) {
+        d.words[ROW_WORDS * place + 2] = MOST_WEIGHT + 1 - (all - (rows - place - 1));
+        emit_table(r, d.words, ROW_WORDS * rows);
+        call_table(r, &d, "sum over the limit in the twelfth row");
+    }
+    d.words[2] = MOST_WEIGHT;
+    emit_table(r, d.words, ROW_WORDS);
+    call_table(r, &(struct draft){.variables = d.variables, .rows = 1}, "one row of the largest weight");
+}
+
+/* --- full desks --- */
+
+/* Rows 0 and 1 are shifted there and back; behind them rows for one of each kind; 512 in all. */
+static void full_desk_draft(struct chance *c, struct draft *d)
+{
+    d->variables = between(c, 20, MOST_VARIABLES);
+    add_row(d, unit_row(1), 5);
+    add_row(d, pair_row(-1, 2), 5);
+    add_fork(c, d, MOST_LINKS, 3);
+    add_chain(c, d, MOST_LINKS, 3);
+    add_row(d, pair_row(3, -4), 2);
+    add_row(d, pair_row(3, 4), 2);
+    while (d->rows < MOST_LOADED - 3) {
+        word length = between(c, 0, 3), weight = between(c, 1, 9);
+        add_row(d, draw_clause(c, d->variables, length), weight);
+    }
+    add_row(d, unit_row(-1), 4);
+    add_row(d, unit_row(-2), 4);
+    add_row(d, unit_row(7), 2);
+}
+
+/* Shifts until so many rows are in use. Even rows hold (l1, not l2), odd ones l2. */
+static void shift_until(struct run *r, word rows)
+{
+    emit(r, "rewrite 2 0 1");
+    for (word row = MOST_LOADED; row + 4 <= rows; row += 2) emit(r, "rewrite 2 %" PRIu64 " %" PRIu64, row + 1, row);
+}
+
+static void run_full_desk(struct run *r)
+{
+    struct chance *c = &r->chance;
+    static struct draft d;
+    d = (struct draft){0};
+    full_desk_draft(c, &d);
+    start_desk(r, &d, MOST_LOADED, draw(c) % 4);
+    word rows = MOST_CAPACITY - (one_in(c, 2) ? 10 : 8);
+    shift_until(r, rows);
+    if (rows == MOST_CAPACITY - 10) emit_rows_from(r, FORK, 2, 12);
+    else emit_rows_from(r, CHAIN, 14, 10);
+    meets(r, "C full at 1,024");
+    emit(r, "wellformed");
+    meets(r, "one row more than C has");
+    emit_rows_from(r, MERGE, 24, 2);
+    emit(r, "bound");
+    emit(r, "search %" PRIu64, between(c, 0, 60));
+    /* the last shift's unit is 1 or 2, and opposed to one of these two */
+    word last = rows - 1, opposed = lent_words(r)[row_word(last, 0)] == 1 ? 509 : 510;
+    meets(r, "a high row named");
+    emit(r, "rewrite 3 %" PRIu64 " %" PRIu64, last, opposed);
+    meets(r, "a high row named");
+    emit(r, "rewrite 1 %" PRIu64 " %d", opposed, MOST_CAPACITY);
+    break_desk(r);
+    call_many(r, 4);
+    take_all_back(r);
+}
+
+/* The last row of all is named: shifts to 1,024 rows, then two units that concede. */
+static void run_last_row(struct run *r)
+{
+    struct chance *c = &r->chance;
+    static struct draft d;
+    d = (struct draft){0};
+    full_desk_draft(c, &d);
+    start_desk(r, &d, MOST_LOADED, draw(c) % 2);
+    shift_until(r, MOST_CAPACITY - 2);
+    word unit = MOST_CAPACITY - 3;
+    word opposed = lent_words(r)[row_word(unit, 0)] == 1 ? 509 : 510;
+    /* one step is left, and two rows */
+    emit(r, "rewrite 2 %" PRIu64 " %" PRIu64, unit, unit - 1);
+    meets(r, "256 steps and 1,024 rows");
+    emit(r, "rewrite 3 %" PRIu64 " %" PRIu64, unit + 2, opposed);
+    emit(r, "back");
+    emit(r, "back");
+    emit(r, "back");
+    /* rows 1,019 and on are free again, and three steps */
+    emit(r, "rewrite 3 %" PRIu64 " %" PRIu64, unit - 4, lent_words(r)[row_word(unit - 4, 0)] == 1 ? (word)509 : (word)510);
+    emit(r, "back");
+    call_many(r, 3);
+    emit(r, "back");
+}
+
+/* As full as it can be with steps to spare: forks of ten new rows each take the rows from 512 to 1,022 or so in 51 steps, and the last
+   rows come from shifts and merges. So row 1,023 is named while steps are left. */
+static void run_row_1023(struct run *r)
+{
+    struct chance *c = &r->chance;
+    static struct draft d;
+    d = (struct draft){.variables = MOST_VARIABLES};
+    /* 40 forks of 12 rows, their ends apart */
+    for (int i = 0; i < 40; i++) add_fork(c, &d, MOST_LINKS, 4);
+    add_row(&d, unit_row(1), 30);
+    add_row(&d, pair_row(-1, 2), 30);
+    add_row(&d, unit_row(-1), 9);
+    add_row(&d, unit_row(-2), 9);
+    while (d.rows < MOST_LOADED) add_row(&d, draw_clause(c, d.variables, 3), 1);
+    start_desk(r, &d, MOST_LOADED, 0);
+    for (word i = 0; i < 40; i++) emit_rows_from(r, FORK, 12 * i, 12);
+    /* 912 rows; 56 shifts make them 1,024 */
+    emit(r, "rewrite 2 480 481");
+    for (word row = lent_words(r)[IN_USE] - 2; row + 4 <= MOST_CAPACITY; row += 2)
+        emit(r, "rewrite 2 %" PRIu64 " %" PRIu64, row + 1, row);
+    meets(r, "C full at 1,024");
+    emit(r, "wellformed");
+    word unit = lent_words(r)[IN_USE] - 1, opposed = lent_words(r)[row_word(unit, 0)] == 1 ? 482 : 483;
+    meets(r, "row 1,023 named");
+    emit(r, one_in(c, 2) ? "rewrite 1 %" PRIu64 " %" PRIu64 : "rewrite 3 %" PRIu64 " %" PRIu64, unit, opposed);
+    meets(r, "row 1,023 named");
+    emit(r, "back");
+    meets(r, "row 1,024 named");
+    emit(r, "rewrite 1 %" PRIu64 " %" PRIu64, opposed, unit + 1);
+    meets(r, "one row more than C has");
+    emit(r, "rewrite 2 %" PRIu64 " %" PRIu64, unit, unit - 1);
+    emit(r, "decide -5");
+    emit(r, "bound");
+    emit(r, "search %" PRIu64, between(c, 0, 40));
+    call_many(r, 3);
+    for (int i = 0; i < 12; i++) emit(r, "back");
+}
+
+/* --- longest chains and forks, each wrong in one place --- */
+
+/* Something is done to one of the named rows beforehand, and put back. */
+static void spoil_one_row(struct run *r, word kind, word first, word count, word i)
+{
+    static const char *const names[] = {"a named row spent", "a named row that does not fit", "a named row satisfied",
+                                        "a named row with its signs turned"};
+    word row = first + i, index = row_word(row, 0), before[ROW_WORDS], how = draw(&r->chance) % 4;
+    for (word j = 0; j < ROW_WORDS; j++) before[j] = lent_words(r)[index + j];
+    word free_bit = (word)1 << 63; /* a variable of no named row, decided true where need be */
+    if (how == 0) poke(r, index + 2, 0);
+    else if (how == 3) poke(r, index, before[1]), poke(r, index + 1, before[0]);
+    else poke(r, index, before[0] | free_bit);
+    if (how == 2) emit(r, "decide 64");
+    meets(r, names[how]);
+    emit_rows_from(r, kind, first, count);
+    if (how == 2) emit(r, "back");
+    for (word j = 0; j < ROW_WORDS; j++) poke(r, index + j, before[j]);
+}
+
+static void name_wrongly(struct run *r, word kind, word first, word count)
+{
+    struct chance *c = &r->chance;
+    word named[16], i = draw(c) % count, j = count - 1;
+    for (word n = 0; n < count; n++) named[n] = first + n;
+    if (i == j) i = 0;
+    named[j] = named[i];
+    meets(r, count == MOST_NAMED ? "twelfth row repeated" : "a row repeated");
+    emit_rewrite(r, kind, named, count);
+    named[j] = lent_words(r)[IN_USE];
+    meets(r, count == MOST_NAMED ? "twelfth row not in use" : "a row not in use");
+    emit_rewrite(r, kind, named, count);
+    named[j] = first + j;
+    named[count] = 0;
+    meets(r, "a row too many");
+    emit_rewrite(r, kind, named, count + 1);
+}
+
+static void run_longest(struct run *r)
+{
+    struct chance *c = &r->chance;
+    struct draft d = {.variables = between(c, 12, MOST_VARIABLES - 1)};
+    word kind = between(c, CHAIN, FORK), k = one_in(c, 2) ? (word)MOST_LINKS : between(c, 0, MOST_LINKS), most = between(c, 1, 9);
+    word count = k + (kind == CHAIN ? 2 : 4), added = count - 2;
+    add_row(&d, draw_clause(c, d.variables, 4), 9);
+    if (kind == CHAIN) add_chain(c, &d, k, most);
+    else add_fork(c, &d, k, most);
+    d.variables = MOST_VARIABLES;
+    bool room = one_in(c, 3);
+    start_desk(r, &d, added - (added > 0 && !room), 0);
+    name_wrongly(r, kind, 1, count);
+    for (word i = 0; i < count; i++) spoil_one_row(r, kind, 1, count, i);
+    if (one_in(c, 2)) spoil_one_row(r, kind, 1, count, count - 1);
+    meets(r, added == 0 ? "no room needed" : room ? "just room" : "a row short of room");
+    emit_rows_from(r, kind, 1, count);
+    emit(r, "bound");
+    emit(r, "search 60");
+    emit(r, "back");
+}
+
+/* --- 255 and 256 standing steps --- */
+
+static void run_steps(struct run *r)
+{
+    struct chance *c = &r->chance;
+    struct draft d = {.variables = between(c, 2, MOST_VARIABLES)};
+    add_row(&d, unit_row(1), 5);
+    add_row(&d, pair_row(-1, 2), 5);
+    add_row(&d, unit_row(2), 3);
+    add_row(&d, unit_row(-2), 3);
+    start_desk(r, &d, between(c, 520, 1020), draw(c) % 2);
+    emit(r, "rewrite 2 0 1");
+    for (int i = 1; i < MOST_STEPS - 1; i++) emit(r, "rewrite 2 %d %d", 2 * i + 3, 2 * i + 2);
+    meets(r, "the 256th step");
+    emit(r, one_in(c, 2) ? "decide -2" : "rewrite 1 2 3");
+    meets(r, "a step beside 256");
+    emit(r, "decide 1");
+    meets(r, "a step beside 256");
+    emit(r, "rewrite 3 2 3");
+    meets(r, "a step beside 256");
+    emit(r, "decide 0");
+    emit(r, "wellformed");
+    emit(r, "bound");
+    meets(r, "256 steps, one taken back");
+    emit(r, "back");
+    emit(r, "rewrite 3 2 3");
+    take_all_back(r);
+}
+
+/* --- searches past 1,000 nodes, and their budgets --- */
+
+static void run_long_search(struct run *r)
+{
+    struct chance *c = &r->chance;
+    static const word budgets[] = {255, 256, 999, 1000, 1001, 1023, 1024, 1025, 4095, 4096, 5000, MOST_BUDGET - 1, MOST_BUDGET};
+    struct draft d = {0};
+    draft_long_search(c, &d);
+    start_desk(r, &d, 5, 0);
+    if (one_in(c, 2)) emit(r, "decide %d", draw_literal(c, d.variables));
+    for (int i = 0; i < 13; i++) {
+        if (budgets[i] >= MOST_BUDGET - 1 || one_in(c, 2)) {
+            meets(r, budgets[i] >= MOST_BUDGET - 1 ? "the largest budgets" : "a budget near 1,000");
+            emit(r, "search %" PRIu64, budgets[i]);
+        }
+    }
+}
+
+/* --- 64 variables --- */
+
+/* Units on each variable, so that every one counts in the bound, and each is decided in turn. */
+static void run_all_variables(struct run *r)
+{
+    struct chance *c = &r->chance;
+    struct draft d = {.variables = MOST_VARIABLES};
+    for (int v = 1; v <= MOST_VARIABLES; v++) {
+        add_row(&d, unit_row(v), between(c, 1, 99));
+        add_row(&d, unit_row(-v), between(c, 1, 99));
+    }
+    add_random_rows(c, &d, 30, between(c, 2, 4), 9);
+    start_desk(r, &d, between(c, 0, 9), 0);
+    int turn = (int)(draw(c) % 64);
+    for (int i = 0; i < MOST_VARIABLES; i++) {
+        int v = (i * 27 + turn) % MOST_VARIABLES + 1;
+        if (i % 4 == 0) emit(r, "bound");
+        if (i % 16 == 0) emit(r, "search %" PRIu64, between(c, 0, 130));
+        meets(r, v == MOST_VARIABLES ? "variable 64 decided" : "each variable decided");
+        emit(r, "decide %d", one_in(c, 2) ? v : -v);
+        if (i % 8 == 0) emit(r, "decide %d", v);
+    }
+    emit(r, "bound");
+    meets(r, "nothing left to decide");
+    emit(r, "search 1");
+    meets(r, "nothing left to decide");
+    emit(r, "search 0");
+    take_all_back(r);
+}
+
+/* --- full texts into words and bytes that just hold them --- */
+
+static void run_room(struct run *r)
+{
+    struct chance *c = &r->chance;
+    static struct draft d;
+    static struct lines l;
+    static const word budgets[] = {0, 9, 10, 4294967294, 4294967295};
+    static char out[MOST_TEXT];
+    size_t length = 0;
+    d = (struct draft){0};
+    if (one_in(c, 2)) full_draft(c, &d, one_in(c, 3) ? (word)MOST_LOADED : between(c, 0, 40));
+    else draft_for_steps(c, &d, between(c, 0, 9), 900);
+    word budget = budgets[draw(c) % 5];
+    write_text(table_of(&d), (uint32_t)budget, out, sizeof out, &length);
+    emit_table(r, d.words, ROW_WORDS * d.rows);
+    meets(r, "just room");
+    emit(r, "write %" PRIu64 " %" PRIu64 " %zu 170", d.variables, budget, length);
+    meets(r, "a byte short of room");
+    emit(r, "write %" PRIu64 " %" PRIu64 " %zu 170", d.variables, budget, length - 1);
+    lines_of(&l, &d, budget > 100 && d.variables > 9 ? 30 : budget);
+    emit_text(r, &l);
+    meets(r, "just room");
+    emit(r, "read %" PRIu64 " 6", ROW_WORDS * d.rows);
+    if (d.rows > 0) {
+        meets(r, "a word short of room");
+        emit(r, "read %" PRIu64 " 6", ROW_WORDS * d.rows - 1);
+    }
+    size_t answered = program_answer(r->bench.text, r->bench.text_length, out);
+    meets(r, "just room");
+    emit(r, "answer %zu 85", answered);
+    meets(r, "a byte short of room");
+    emit(r, "answer %zu 85", answered - 1);
+    emit(r, "answer 827 85");
+    draft_long_answer(c, &d);
+    lines_of(&l, &d, one_in(c, 2) ? 100000 : 4300);
+    emit_text(r, &l);
+    meets(r, "a long answer");
+    emit(r, "answer 305 85");
+}
+
+static const struct run_family full_families[] = {
+    {"entries", run_entries},       {"unformed", run_unformed}, {"longest", run_longest},
+    {"decision-entries", run_decision_entries}, {"sums", run_sums}, {"room", run_room},
+    {"entries", run_entries},       {"unformed", run_unformed}, {"longest", run_longest},
+    {"full-table", run_full_table}, {"all-variables", run_all_variables}, {"long-search", run_long_search},
+    {"full-desk", run_full_desk},   {"row-1023", run_row_1023}, {"steps", run_steps}, {"last-row", run_last_row},
+    {"ledger", run_ledger},         {"room", run_room},
+};
+enum { FULL_FAMILIES = sizeof full_families / sizeof *full_families };

@@ -1,0 +1,42 @@
+# What runs of calls have met: of each script and the answers to it beside it (SCRIPT.SUFFIX), a line `COUNT CALL OUTCOME` for each call and
+# outcome, `COUNT STEP ok` for each kind of step that was accepted, with its links, and `COUNT NAME: CALL OUTCOME` where a line `# meets NAME`
+# stood before the call.
+function met(what) { count[what]++ }
+function outcome(answer,   part) {
+  split(answer, part, " ")
+  if (part[1] == "refused") return "refused " part[2]
+  if (part[1] ~ /^[0-9]+$/) return "ok"
+  if ((part[1] == "done" || part[1] == "stopped") && part[2] == "none") return part[1] " with none"
+  return part[1] == "" ? "nothing" : part[1]
+}
+function step(named, words) {
+  if (named == "1") return "merge"
+  if (named == "2") return "shift"
+  if (named == "3") return "chain, k = " (words - 4)
+  return "fork, k = " (words - 6)
+}
+BEGIN {
+  split("load wellformed decide rewrite back bound search weight read write answer", names, " ")
+  for (i in names) is_call[names[i]] = 1
+  for (i = 1; i < ARGC; i++) {
+    answers = ARGV[i] "." suffix
+    tag = ""
+    while ((getline line < ARGV[i]) > 0) {
+      head = substr(line, 1, 300)
+      if (index(head, "# meets ") == 1) { tag = substr(head, 9); continue }
+      words = split(head, word, " ")
+      if (word[1] == "words") { getline answer < answers; continue }
+      if (!(word[1] in is_call)) continue
+      answer = ""
+      getline answer < answers
+      how = outcome(substr(answer, 1, 100))
+      met(word[1] " " how)
+      if (word[1] == "rewrite" && how == "ok") met(step(word[2], words) " ok")
+      if (tag != "") met(tag ": " word[1] " " how)
+      tag = ""
+    }
+    close(ARGV[i])
+    close(answers)
+  }
+  for (what in count) print count[what] " " what
+}
