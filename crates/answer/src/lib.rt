@@ -2,11 +2,11 @@
 // the rules; this room only puts reader, desk, search and lines one behind the other.
 ghost use mathlib.Core.Path.{_≡_};
 ghost use Rattle.rules.specs.Program.{answered, answerOut};
+use answer_lines::inner;
 use rules::Refusal;
 use rules::Searched;
 use rules::Written;
 
-mod lines;
 mod outcomes;
 
 // What an input comes to: a search of so many variables, or a refusal.
@@ -22,11 +22,13 @@ pub fn answer(input: &[u8], output: &mut [u8]) -> Written
     ensures bytes { λ _. ⌜ now (output .exit) ≡ answerOut (now (input .entry)) (now (output .entry)) ⌝ }
 {
     let outcome = outcomes::outcome_of(input);
+    let variables = outcome.variables;
+    let searched = outcome.searched;
     let mut nowhere = [0u8; 1];
-    let n = lines::put_outcome(&mut nowhere, outcome);
+    let n = inner::put_outcome(&mut nowhere, variables, searched);
     if output.len() < n {
         return Written::Refused(Refusal::NoRoom);
     }
-    lines::put_outcome(output, outcome);
+    inner::put_outcome(output, variables, searched);
     Written::Bytes(n)
 }

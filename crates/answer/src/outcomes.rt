@@ -68,7 +68,7 @@ pub fn outcome_of(input: &[u8]) -> Outcome
         return refused(Refusal::InputTooLong);
     }
     let mut table = [0u64; TABLE];
-    match text::read(input, &mut table) {
+    match reader::read(input, &mut table) {
         TextRead::Refused(why) => refused(why),
         TextRead::Table {
             variables,

@@ -17,7 +17,7 @@ use Rattle.rules.specs.declared.Part.{Part}
 use Rattle.rules.specs.Table.{mostWeight}
 use Rattle.rules.specs.Desk.{variables, inUse, conceded, rowOn, rowPlace, deskWords, wellFormed, weightOn, satisfied, remnant}
 use Rattle.rules.specs.Bound.{weightWhere, lostBeyond, unitWeight, foreseenAt, foreseen}
-use Rattle.step_laws.proofs.Formed.{formed}
+use Rattle.desk_laws.proofs.Formed.{formed}
 use Rattle.bound.specs.Units.{Readable, positiveUnit, negativeUnit}
 
 pub where-le : (test : Lits → Bool) (p : Part) (row : Row) → weightWhere test p row ≤ row .weight
@@ -30,13 +30,24 @@ module _ (d : List ℕ) (readable : Readable d) (p : Part) where
   rows-most : (test : Lits → Bool) → conceded d + sum (inUse d) (λ k. weightWhere test p (rowOn d k)) ≤ mostWeight
   unfolding weightOn
   rows-most test =
-      omega (arith, readable .weights, sum-le (inUse d) {f = λ k. weightWhere test p (rowOn d k)} {g = λ k. rowOn d k .weight} (λ k l. where-le test p (rowOn d k)))
+      omega (
+        arith,
+        readable .weights,
+        sum-le (inUse d) {f = λ k. weightWhere test p (rowOn d k)} {g = λ k. rowOn d k .weight}
+            (λ k l. where-le test p (rowOn d k)),
+      )
 
   -- the rows passed, and the next
   pub rows-fit : (test : Lits → Bool) (i : ℕ) → i < inUse d
       → sum i (λ k. weightWhere test p (rowOn d k)) + weightWhere test p (rowOn d i) ≤ mostWeight
   rows-fit test i h =
-      omega (arith, rows-most test, sum-more i (λ k. weightWhere test p (rowOn d k)), sum-mono (i + 1) (inUse d) (λ k. weightWhere test p (rowOn d k)) (omega arith))
+      omega (
+        arith,
+        rows-most test,
+        sum-more i (λ k. weightWhere test p (rowOn d k)),
+        sum-mono (i + 1) (inUse d)
+            (λ k. weightWhere test p (rowOn d k)) (omega arith),
+      )
 
   pub lost-fits : conceded d + lostBeyond d p ≤ mostWeight
   unfolding lostBeyond

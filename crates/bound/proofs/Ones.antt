@@ -107,7 +107,8 @@ module _ (a b : ℕ) (ha : a < 2 ^ 64) (hb : b < 2 ^ 64) where
     is-negative one at z =
         let none : count a ≡ 0 = ap count z ∙ count-zero in
         let same : b ≡ single v =
-        count-one hb (omega arith) ∙ ap (λ (k : ℕ). 2 ^ k) (ap (trailingZeros 64) (sym (ap (λ (x : ℕ). bitOr x b) z ∙ or-zero-l b)) ∙ at) ∙ sym (single-pow v below) in
+        count-one hb (omega arith) ∙ ap (λ (k : ℕ). 2 ^ k) (ap (trailingZeros 64) (sym (ap (λ (x : ℕ). bitOr x b) z ∙ or-zero-l b)) ∙ at)
+        ∙ sym (single-pow v below) in
         let told : sameLits (negativeUnit v) these ≡ true = eq-same (negativeUnit v) these (lits-ext _ _ (sym z) (sym same)) in
         units-ext _ _
         (sym (not-positive (λ e. omega (arith, ap (λ (l : Lits). l .positive) e, single-pow v below, pow-pos v))))

@@ -8,16 +8,16 @@ ghost use Rattle.rules.specs.Bound.{lostBeyond, foreseenAt, foreseen, bound};
 ghost use Rattle.bound.specs.Units.{Readable};
 use crate::rests::lost_by;
 use crate::rests::units_by;
-use desk::inner::row_on;
 use rules::Desk;
 use rules::Part;
+use words::inner::row_on;
 
 // The decisions of a desk as a partial reading.
 pub fn decisions(desk: &[u64]) -> Part
     ensures { λ r. ⌜ r ≡ decisions (now (desk .entry)) ⌝ }
 {
-    let decided = rules::word(desk, 5);
-    let truths = rules::word(desk, 6);
+    let decided = rules::word(desk, Desk::DECIDED);
+    let truths = rules::word(desk, Desk::TRUTHS);
     Part { decided, truths }
 }
 
@@ -26,7 +26,7 @@ fn lost_beyond(desk: &[u64], p: Part) -> u64
     requires { ⌜ Readable (now desk) ⌝ }
     ensures { λ r. ⌜ r ≡ lostBeyond (now (desk .entry)) p ⌝ }
 {
-    let n = rules::word(desk, 1) as usize;
+    let n = rules::word(desk, Desk::IN_USE) as usize;
     let mut lost = 0;
     let mut i = 0;
     while i < n {
@@ -43,7 +43,7 @@ fn foreseen_at(desk: &[u64], p: Part, v: u64) -> u64
     requires { ⌜ v < 64 ⌝ }
     ensures { λ r. ⌜ r ≡ foreseenAt (now (desk .entry)) p v ⌝ }
 {
-    let n = rules::word(desk, 1) as usize;
+    let n = rules::word(desk, Desk::IN_USE) as usize;
     let mut positive = 0;
     let mut negative = 0;
     let mut i = 0;
@@ -79,7 +79,7 @@ fn foreseen(desk: &[u64], p: Part) -> u64
     requires { ⌜ Readable (now desk) ⌝ }
     ensures { λ r. ⌜ r ≡ foreseen (now (desk .entry)) p ⌝ }
 {
-    let n = rules::word(desk, 0);
+    let n = rules::word(desk, Desk::VARIABLES);
     let mut sum = 0;
     let mut v = 0;
     while v < n {
@@ -94,7 +94,7 @@ pub fn bound_at(desk: &[u64], p: Part) -> u64
     requires { ⌜ Readable (now desk) ⌝ }
     ensures { λ r. ⌜ r ≡ bound (now (desk .entry)) p ⌝ }
 {
-    let conceded = rules::word(desk, 4);
+    let conceded = rules::word(desk, Desk::CONCEDED);
     let lost = lost_beyond(desk, p);
     let foreseen = foreseen(desk, p);
     conceded + lost + foreseen

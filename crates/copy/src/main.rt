@@ -27,7 +27,7 @@ fn again(input: &[u8], output: &mut [u8]) -> usize
     ensures bytes { λ _. ⌜ now (output .exit) ≡ copyOut (now (input .entry)) (now (output .entry)) ⌝ }
 {
     let mut table = [0u64; TABLE];
-    match text::read(input, &mut table) {
+    match reader::read(input, &mut table) {
         TextRead::Refused(_) => 0,
         TextRead::Table {
             variables,
@@ -35,7 +35,7 @@ fn again(input: &[u8], output: &mut [u8]) -> usize
             rows,
         } => {
             let n = Row::WORDS * (rows as usize);
-            let written = text::write(variables, budget as u32, &table[..n], output);
+            let written = writer::write(variables, budget as u32, &table[..n], output);
             length_of(written)
         }
     }

@@ -7,11 +7,11 @@ use native.Mathlib.Omega.{arith}
 use lib.ListN.{length}
 use lib.Dec.{leb, ltb}
 use borrow.Author.Tests.{leb-true, ltb-true, ltb-false, lt-leb, le-leb}
-use Rattle.masks.specs.Sums.{sum, every}
 use Rattle.masks.proofs.Choice.{and-left, and-right}
 use Rattle.literals.specs.Literal.{mostVariables}
-use Rattle.rules.specs.Table.{rowWords, mostRows, mostWeight, rowIn, badLits}
-use Rattle.rules.specs.Desk.{headWords, variables, inUse, capacity, standing, conceded, loaded, mostCapacity, mostSteps, entryWords, rowPlace, deskWords, rowOn, weightOn, reaches, inLimits, rowsSound, weightFits, masksNest, wellFormed}
+use Rattle.rules.specs.Table.{rowWords, mostRows, mostWeight}
+use Rattle.rules.specs.Desk.{headWords, variables, inUse, capacity, standing, loaded, mostCapacity, mostSteps, entryWords, rowPlace, deskWords}
+use Rattle.rules.specs.Desk.{weightOn, reaches, inLimits, rowsSound, weightFits, masksNest, wellFormed}
 
 -- (a) and (b) in numbers
 pub record Counted (d : List ℕ) : Type 0 where
@@ -40,12 +40,12 @@ counted d a b =
     }
 
 -- (d), from the sum that is held to its limit as it grows
-pub fits-not : (d : List ℕ) → ltb mostWeight (conceded d + sum (inUse d) (λ i. rowIn d (headWords + rowWords * i) .weight)) ≡ true → weightFits d ≡ false
-unfolding weightFits weightOn rowOn rowPlace
+pub fits-not : (d : List ℕ) → ltb mostWeight (weightOn d) ≡ true → weightFits d ≡ false
+unfolding weightFits
 fits-not d over = lt-leb (weightOn d) mostWeight (ltb-true _ _ over)
 
-pub fits-so : (d : List ℕ) → ltb mostWeight (conceded d + sum (inUse d) (λ i. rowIn d (headWords + rowWords * i) .weight)) ≡ false → weightFits d ≡ true
-unfolding weightFits weightOn rowOn rowPlace
+pub fits-so : (d : List ℕ) → ltb mostWeight (weightOn d) ≡ false → weightFits d ≡ true
+unfolding weightFits
 fits-so d within = le-leb (weightOn d) mostWeight (ltb-false _ _ within)
 
 module _ (d : List ℕ) where

@@ -4,21 +4,13 @@ use mathlib.Core.Path.{_≡_, refl, sym, ap, _∙_}
 use mathlib.Core.List.{List, [], _∷_, _++_, append-assoc}
 use native.Mathlib.Omega.{arith}
 use native.Mathlib.Nat.{zero-add}
-use native.Mathlib.Numerals.{add-one}
-use lib.ListN.{length, getD, set, take, drop, replicate, length-append, length-replicate}
-use lib.Seq.{sets, sets-eq, take-suc, length-take-le, take-length}
+use lib.ListN.{length, drop, replicate, length-append, length-replicate}
+use lib.Seq.{sets, sets-eq}
 use Rattle.masks.specs.Words.{zeroed}
 use Rattle.masks.proofs.Words.{sets-append, zeroed-sets}
 use Rattle.rules.specs.Table.{rowWords, rowCount}
 use Rattle.rules.specs.Desk.{mostSteps, entryWords, rowPlace, deskWords, loadStep}
 use Rattle.desk.specs.Lay.{headFor}
-
--- one more word of a list that is being copied
-pub copied-more : (d t : List ℕ) (at i : ℕ) → i < length t
-    → set (sets d at (take i t)) (at + i) (getD t i 0) ≡ sets d at (take (i + 1) t)
-copied-more d t at i h =
-    let n : length (take i t) ≡ i = length-take-le i t (omega arith) in
-    rw (add-one i, take-suc t i 0 h, ← sets-append d at (take i t) (getD t i 0 ∷ []), n)
 
 -- three runs, each behind the one before it, from the first word on
 pub three-runs : (d h t z : List ℕ) → length h + length t + length z ≤ length d

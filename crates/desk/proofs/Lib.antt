@@ -1,5 +1,3 @@
 pub mod Branches
 pub mod Laid
-pub mod Limits
 pub mod Loading
-pub mod Rows

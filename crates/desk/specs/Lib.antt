@@ -1,3 +1,1 @@
-pub mod Judge
 pub mod Lay
-pub mod Room

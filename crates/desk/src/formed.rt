@@ -6,14 +6,14 @@ ghost use lib.ListN.{length};
 ghost use Rattle.masks.specs.Sums.{every};
 ghost use Rattle.rules.specs.Table.{rowWords, badLits};
 ghost use Rattle.rules.specs.Desk.{headWords, rowOn, reaches, inLimits, masksNest, wellFormed};
-use crate::inner::row_on;
-use crate::judge::sum_over;
 use literals::Literal;
 use rules::Desk;
 use rules::Entry;
 use rules::Row;
 use rules::bad_lits;
 use rules::word;
+use tables::inner::over;
+use words::inner::row_on;
 
 // Whether a desk in these words is well formed.
 pub fn well_formed(desk: &[u64]) -> bool
@@ -25,11 +25,11 @@ pub fn well_formed(desk: &[u64]) -> bool
     if !in_limits(desk) {
         return false;
     }
-    let n = word(desk, 1) as usize;
-    if !rows_sound(desk, word(desk, 0), n) {
+    let n = word(desk, Desk::IN_USE) as usize;
+    if !rows_sound(desk, word(desk, Desk::VARIABLES), n) {
         return false;
     }
-    if sum_over(desk, Desk::HEAD, n, word(desk, 4)) {
+    if over(desk, n, word(desk, Desk::CONCEDED)) {
         return false;
     }
     masks_nest(desk)
@@ -39,7 +39,7 @@ pub fn well_formed(desk: &[u64]) -> bool
 fn reaches(desk: &[u64]) -> bool
     ensures { λ r. ⌜ r ≡ reaches (now (desk .entry)) ⌝ }
 {
-    let c = word(desk, 2);
+    let c = word(desk, Desk::CAPACITY);
     if c > Desk::MOST_CAPACITY {
         return false;
     }

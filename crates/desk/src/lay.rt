@@ -4,17 +4,17 @@ ghost use Prim.Native.Nat.{_+_, _*_, _≤_};
 ghost use lib.ListN.{length};
 ghost use lib.Seq.{sets};
 ghost use Rattle.rules.specs.Table.{rowWords};
-ghost use Rattle.rules.specs.Desk.{mostCapacity, deskWords, loadWhy, loadStep, loadDesk};
+ghost use Rattle.rules.specs.Desk.{headWords, mostCapacity, deskWords, loadWhy, loadStep, loadDesk};
 ghost use Rattle.desk.specs.Lay.{headFor};
-use crate::inner::zero;
-use crate::judge::bad_table;
-use crate::judge::rows_and_sum;
 use literals::Literal;
 use rules::Desk;
 use rules::Entry;
 use rules::Judged;
 use rules::Refusal;
 use rules::Row;
+use tables::bad_table;
+use tables::rows_and_sum;
+use words::inner::zero;
 
 // A table onto a desk with room for C rows.
 pub fn load(variables: u64, table: &[u64], capacity: u64, desk: &mut [u64]) -> Judged
@@ -71,17 +71,17 @@ fn lay(variables: u64, table: &[u64], capacity: u64, desk: &mut [u64])
 }
 
 fn lay_head(variables: u64, rows: u64, capacity: u64, desk: &mut [u64])
-    requires { ⌜ 8 ≤ length (now desk) ⌝ }
+    requires { ⌜ headWords ≤ length (now desk) ⌝ }
     ensures { λ _. ⌜ now (desk .exit) ≡ sets (now (desk .entry)) 0 (headFor variables rows capacity) ⌝ }
 {
-    desk[0] = variables;
-    desk[1] = rows;
-    desk[2] = capacity;
-    desk[3] = 0;
-    desk[4] = 0;
-    desk[5] = 0;
-    desk[6] = 0;
-    desk[7] = rows;
+    desk[Desk::VARIABLES] = variables;
+    desk[Desk::IN_USE] = rows;
+    desk[Desk::CAPACITY] = capacity;
+    desk[Desk::STANDING] = 0;
+    desk[Desk::CONCEDED] = 0;
+    desk[Desk::DECIDED] = 0;
+    desk[Desk::TRUTHS] = 0;
+    desk[Desk::LOADED] = rows;
 }
 
 // The words of a table into a desk, from a place on.

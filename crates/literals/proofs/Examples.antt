@@ -4,32 +4,32 @@ use Prim.Native.Nat.{_^_}
 use mathlib.Core.Path.{_≡_, refl}
 use lib.IntN.{pos, negsuc}
 use Rattle.masks.specs.Masks.{single}
-use Rattle.literals.specs.Literal.{size, isPositive, isLiteral, opposite, bitOf, litsOf, made}
-use Rattle.literals.specs.declared.Made.the-variants.{Fine, Refused}
+use Rattle.literals.specs.Literal.{size, isPositive, isLiteral, opposite, bitOf, litsOf, offered}
+use Rattle.literals.specs.declared.Offered.the-variants.{Fine, Refused}
 
 -- which numbers are literals
-largest : made (pos 64) ≡ Fine (record { value = pos 64 })
-unfolding size isLiteral made
+largest : offered (pos 64) ≡ Fine (record { value = pos 64 })
+unfolding size isLiteral offered
 largest = refl
 
-smallest : made (negsuc 63) ≡ Fine (record { value = negsuc 63 })
-unfolding size isLiteral made
+smallest : offered (negsuc 63) ≡ Fine (record { value = negsuc 63 })
+unfolding size isLiteral offered
 smallest = refl
 
-too-large : made (pos 65) ≡ Refused
-unfolding size isLiteral made
+too-large : offered (pos 65) ≡ Refused
+unfolding size isLiteral offered
 too-large = refl
 
-too-small : made (negsuc 64) ≡ Refused
-unfolding size isLiteral made
+too-small : offered (negsuc 64) ≡ Refused
+unfolding size isLiteral offered
 too-small = refl
 
-zero-refused : made (pos 0) ≡ Refused
-unfolding size isLiteral made
+zero-refused : offered (pos 0) ≡ Refused
+unfolding size isLiteral offered
 zero-refused = refl
 
-least-of-type : made (negsuc 9223372036854775807) ≡ Refused
-unfolding size isLiteral made
+least-of-type : offered (negsuc 9223372036854775807) ≡ Refused
+unfolding size isLiteral offered
 least-of-type = refl
 
 -- opposites

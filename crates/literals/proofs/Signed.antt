@@ -1,4 +1,5 @@
--- A signed value is held as 64 bits. Read as signed, they are the number again (`back`), so what the code makes of values is what the definitions make of numbers.
+-- A signed value is held as 64 bits. Read as signed, they are the number again (`back`), so that what the code makes of values is what the
+-- definitions make of numbers.
 -- A negative number's sign is turned one step nearer to 0: the least number of the type has no opposite there, and has a size all the same.
 use Prim.Native.Nat.{ℕ, zero, suc, _+_}
 use mathlib.Core.Path.{_≡_, refl, sym, ap, _∙_, subst}

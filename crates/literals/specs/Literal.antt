@@ -6,8 +6,8 @@ use lib.Dec.{eqb, leb}
 use lib.IntN.{ℤ, pos, negℤ, natAbs}
 use lib.Signed.{ltZ}
 use Rattle.masks.specs.Masks.{single}
-use Rattle.literals.specs.declared.Made.{Made}
-use Rattle.literals.specs.declared.Made.the-variants.{Fine, Refused}
+use Rattle.literals.specs.declared.Offered.{Offered}
+use Rattle.literals.specs.declared.Offered.the-variants.{Fine, Refused}
 use Rattle.literals.specs.declared.Lits.{Lits}
 
 -- how many variables there can be; they are numbered from 1
@@ -42,5 +42,5 @@ litsOf z =
     }
 
 -- what is no literal is refused
-unfoldable pub made : ℤ → Made
-made z = cond (isLiteral z) (Fine (record { value = z })) Refused
+unfoldable pub offered : ℤ → Offered
+offered z = cond (isLiteral z) (Fine (record { value = z })) Refused

@@ -1,7 +1,7 @@
 // A literal as a kind of value, and a set of literals as two masks. No method asks anything of its value: a number that
 // is no literal can be held, and each definition says what becomes of it.
 ghost use mathlib.Core.Path.{_≡_};
-ghost use Rattle.literals.specs.Literal.{mostVariables, size, isPositive, isLiteral, opposite, bitOf, litsOf, made};
+ghost use Rattle.literals.specs.Literal.{mostVariables, size, isPositive, isLiteral, opposite, bitOf, litsOf, offered};
 ghost use Rattle.literals.specs.Lits.{noLits, negatedLits, together, less, variablesOf, isEmpty, sameLits, isOne};
 
 pub struct Literal {
@@ -9,7 +9,7 @@ pub struct Literal {
 }
 
 // What becomes of a number that is to be a literal.
-pub enum Made {
+pub enum Offered {
     Fine(Literal),
     Refused,
 }
@@ -31,14 +31,14 @@ impl Literal {
     }
 
     // Any number may be offered; what is no literal is refused.
-    pub fn new(value: i64) -> Made
-        ensures { λ r. ⌜ r ≡ made value ⌝ }
+    pub fn new(value: i64) -> Offered
+        ensures { λ r. ⌜ r ≡ offered value ⌝ }
     {
         let l = Literal { value };
         if l.is_literal() {
-            Made::Fine(l)
+            Offered::Fine(l)
         } else {
-            Made::Refused
+            Offered::Refused
         }
     }
 
@@ -119,9 +119,10 @@ impl Lits {
     pub fn none() -> Lits
         ensures { λ r. ⌜ r ≡ noLits ⌝ }
     {
+        let nothing = 0;
         Lits {
-            positive: 0,
-            negative: 0,
+            positive: nothing,
+            negative: nothing,
         }
     }
 

@@ -5,7 +5,8 @@ use Prim.Native.Nat.{ℕ, zero, suc, _+_, _*_, _/_, _%_, _^_, _≤_, _<_}
 use mathlib.Core.Path.{_≡_, refl, sym, ap, _∙_}
 use mathlib.Core.Logic.{⊎-elim}
 use mathlib.Core.Bool.{Bool, true, false, not, cond, xor, _&&_, _||_}
-use native.Mathlib.Nat.{zero-lt-suc, zero-div, div-one, div-eq-of-lt, div-lt-iff-lt-mul, div-div-eq-div-mul, mod-lt, pow-succ', lt-of-lt-of-le, one-mul, pow-suc, mul-mod-left, mul-div-cancel}
+use native.Mathlib.Nat.{zero-lt-suc, zero-div, div-one, div-eq-of-lt, div-lt-iff-lt-mul, div-div-eq-div-mul, mod-lt, pow-succ', lt-of-lt-of-le}
+use native.Mathlib.Nat.{one-mul, pow-suc, mul-mod-left, mul-div-cancel}
 use native.Mathlib.Omega.{arith}
 use lib.Arith.{bin-ind}
 use lib.Bits.{bitAnd, bitOr, bitXor, and-shr, or-shr, xor-shr, and-mod, or-mod, xor-mod}
@@ -186,7 +187,9 @@ pub bit-pow : (v w : ℕ) → bit (2 ^ v) w ≡ cond (eqb w v) 1 0
 bit-pow v w = bit-has (2 ^ v) w ∙ rw (has-pow v w)
 
 pub bit-and : (a b v : ℕ) → bit (bitAnd a b) v ≡ bit a v * bit b v
-bit-and a b v = rw (bit-has (bitAnd a b) v, bit-has a v, bit-has b v, has-and a b v) (two-tests (λ x y. cond (x && y) 1 0 ≡ cond x 1 0 * cond y 1 0) refl refl refl refl (has a v) (has b v))
+bit-and a b v =
+    rw (bit-has (bitAnd a b) v, bit-has a v, bit-has b v, has-and a b v)
+    (two-tests (λ x y. cond (x && y) 1 0 ≡ cond x 1 0 * cond y 1 0) refl refl refl refl (has a v) (has b v))
 
 -- what a union has twice is in the meet
 pub bit-or-and : (a b v : ℕ) → bit (bitOr a b) v + bit (bitAnd a b) v ≡ bit a v + bit b v

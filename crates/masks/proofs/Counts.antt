@@ -5,7 +5,8 @@ use Prim.Native.Nat.{ℕ, zero, suc, _+_, _/_, _%_, _^_, _≤_, _<_}
 use mathlib.Core.Path.{_≡_, refl, sym, ap, ap₂, _∙_}
 use mathlib.Core.Logic.{⊎-elim}
 use mathlib.Core.Bool.{true, false}
-use native.Mathlib.Nat.{le-of-suc-le-suc, not-suc-le-zero, zero-lt-suc, mod-lt, pow-suc, div-lt-iff-lt-mul, lt-trans, lt-of-lt-of-le, eq-or-lt-of-le, eq-zero-or-pos}
+use native.Mathlib.Nat.{le-of-suc-le-suc, not-suc-le-zero, zero-lt-suc, mod-lt, pow-suc, div-lt-iff-lt-mul, lt-trans, lt-of-lt-of-le, eq-or-lt-of-le}
+use native.Mathlib.Nat.{eq-zero-or-pos}
 use native.Mathlib.Omega.{arith}
 use lib.Arith.{lt-one}
 use lib.Bits.{bitAnd, bitOr, and-comm}
@@ -15,7 +16,8 @@ use Rattle.masks.specs.Masks.{bit, has, count, without}
 use Rattle.masks.specs.Sums.{sum}
 use Rattle.masks.proofs.Choice.{lt-or-le, eq-or-ne, clash}
 use Rattle.masks.proofs.Sums.{sum-ext, sum-zero, sum-none, sum-add, sum-bound, sum-front, sum-only}
-use Rattle.masks.proofs.Bits.{bit-lt, bit-one, bit-none, bit-low, bit-up, bit-zero, has-low, has-up, has-pow-same, has-pow-other, bit-split, bit-or-and, empty-below}
+use Rattle.masks.proofs.Bits.{bit-lt, bit-one, bit-none, bit-low, bit-up, bit-zero, has-low, has-up, has-pow-same, has-pow-other, bit-split}
+use Rattle.masks.proofs.Bits.{bit-or-and, empty-below}
 use Rattle.masks.proofs.Sets.{without-lt, within-antisym, within-and, and-pow-apart, pow-within, has-take-other, take-put}
 
 -- ---- the count
@@ -62,7 +64,15 @@ count-split m s =
 
 pub count-or-and : (a b : ℕ) → count (bitOr a b) + count (bitAnd a b) ≡ count a + count b
 count-or-and a b =
-    rw (count-sum (bitOr a b), count-sum (bitAnd a b), count-sum a, count-sum b, ← sum-add 64 (bit (bitOr a b)) (bit (bitAnd a b)), ← sum-add 64 (bit a) (bit b))
+    rw (
+      count-sum (bitOr a b),
+      count-sum (bitAnd a b),
+      count-sum a,
+      count-sum b,
+      ← sum-add 64 (bit (bitOr a b)) (bit (bitAnd a b)),
+      ← sum-add 64
+          (bit a) (bit b),
+    )
     (sum-ext 64 (λ v l. bit-or-and a b v))
 
 pub count-or : (a b : ℕ) → bitAnd a b ≡ 0 → count (bitOr a b) ≡ count a + count b

@@ -42,13 +42,15 @@ pub or-and-self : (a b : ℕ) → bitOr a (bitAnd a b) ≡ a
 or-and-self a b = has-ext (λ v. simp (has-and, has-or) (same2 (λ x y. x || x && y) (λ x y. x) tt (has a v) (has b v)))
 
 pub without-or : (a b c : ℕ) → without a (bitOr b c) ≡ without (without a b) c
-without-or a b c = has-ext (λ v. simp (has-without, has-or) (same3 (λ x y z. x && not (y || z)) (λ x y z. x && not y && not z) tt (has a v) (has b v) (has c v)))
+without-or a b c =
+    has-ext (λ v. simp (has-without, has-or) (same3 (λ x y z. x && not (y || z)) (λ x y z. x && not y && not z) tt (has a v) (has b v) (has c v)))
 
 pub without-swap : (a b c : ℕ) → without (without a b) c ≡ without (without a c) b
 without-swap a b c = has-ext (λ v. simp has-without (same3 (λ x y z. x && not y && not z) (λ x y z. x && not z && not y) tt (has a v) (has b v) (has c v)))
 
 pub or-without : (a b c : ℕ) → without (bitOr a b) c ≡ bitOr (without a c) (without b c)
-or-without a b c = has-ext (λ v. simp (has-without, has-or) (same3 (λ x y z. (x || y) && not z) (λ x y z. x && not z || y && not z) tt (has a v) (has b v) (has c v)))
+or-without a b c =
+    has-ext (λ v. simp (has-without, has-or) (same3 (λ x y z. (x || y) && not z) (λ x y z. x && not z || y && not z) tt (has a v) (has b v) (has c v)))
 
 pub and-without : (a b c : ℕ) → bitAnd (without a b) c ≡ without (bitAnd a c) b
 and-without a b c = has-ext (λ v. simp (has-without, has-and) (same3 (λ x y z. x && not y && z) (λ x y z. x && z && not y) tt (has a v) (has b v) (has c v)))
@@ -100,7 +102,8 @@ pub apart : (a b : ℕ) → bitAnd a b ≡ 0 → (v : ℕ) → has a v ≡ true 
 apart a b e v h = not-so (λ k. clash (has-and a b v ∙ rw (h, k)) (ap (λ (m : ℕ). has m v) e ∙ has-zero v))
 
 pub apart-of : (a b : ℕ) → ((v : ℕ) → has a v ≡ true → has b v ≡ false) → bitAnd a b ≡ 0
-apart-of a b h = empty (λ v. not-so (λ t. let k = has-and a b v in clash (and-right (has a v) (has b v) (sym k ∙ t)) (h v (and-left (has a v) (has b v) (sym k ∙ t)))))
+apart-of a b h =
+    empty (λ v. not-so (λ t. let k = has-and a b v in clash (and-right (has a v) (has b v) (sym k ∙ t)) (h v (and-left (has a v) (has b v) (sym k ∙ t)))))
 
 pub within : (a b : ℕ) → without a b ≡ 0 → (v : ℕ) → has a v ≡ true → has b v ≡ true
 within a b e v h = so (λ k. clash (has-without a b v ∙ rw (h, k)) (ap (λ (m : ℕ). has m v) e ∙ has-zero v))

@@ -5,7 +5,8 @@ use Prim.Native.Nat.{ℕ, zero, suc, _+_, _-_, _*_, _≤_, _<_, min}
 use mathlib.Core.Path.{_≡_, refl, sym, ap, ap₂, _∙_, subst}
 use mathlib.Core.Logic.{_↔_, ⊎-elim}
 use mathlib.Core.Bool.{Bool, true, false, _&&_, true≢false}
-use native.Mathlib.Nat.{le-refl, le-step, le-of-lt, le-of-suc-le-suc, eq-or-lt-of-le, eq-zero-or-pos, not-suc-le-zero, add-zero, add-suc, add-sub-of-le, mul-zero, mul-add, min-le-right, min-eq-left, min-eq-right, le-min}
+use native.Mathlib.Nat.{le-refl, le-step, le-of-lt, le-of-suc-le-suc, eq-or-lt-of-le, eq-zero-or-pos, not-suc-le-zero, add-zero, add-suc}
+use native.Mathlib.Nat.{add-sub-of-le, mul-zero, mul-add, min-le-right, min-eq-left, min-eq-right, le-min}
 use native.Mathlib.Numerals.{add-one}
 use native.Mathlib.Omega.{arith}
 use lib.Arith.{le-zero}

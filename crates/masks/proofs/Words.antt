@@ -10,8 +10,10 @@ use native.Mathlib.Nat.{add-zero, sub-self, suc-inj, le-step, le-refl, eq-or-lt-
 use native.Mathlib.Numerals.{add-one}
 use native.Mathlib.Omega.{arith}
 use lib.Dec.{eqb}
-use lib.ListN.{length, getD, set, take, drop, replicate, length-set, length-drop, length-replicate, replicate-append-replicate, take-append-drop, List·getD-eq-default}
-use lib.Seq.{sets, sets-eq, length-sets, set-out, set-set, set-comm, getD-set-same, getD-set-other, take-set-le, drop-set-lt, take-append-seam, drop-at, drop-drop, length-take-le}
+use lib.ListN.{length, getD, set, take, drop, replicate, length-set, length-drop, length-replicate, replicate-append-replicate, take-append-drop}
+use lib.ListN.{List·getD-eq-default}
+use lib.Seq.{sets, sets-eq, length-sets, set-out, set-set, set-comm, getD-set-same, getD-set-other, take-set-le, drop-set-lt, take-append-seam}
+use lib.Seq.{drop-at, drop-drop, length-take-le, take-suc}
 use borrow.Author.Tests.{eqb-true, eqb-false}
 use Rattle.masks.specs.Words.{zeroed}
 use Rattle.masks.proofs.Choice.{cases, lt-or-le}
@@ -60,6 +62,12 @@ module _ {A : Type 0} where
       sets-in (set d i a) (suc i) vs j z m (omega arith) (rw length-set k) ∙ rw e)
       (eq-or-lt-of-le l)
 
+  -- word k of a run that lies within the list
+  pub sets-at : (d : List A) (i : ℕ) (vs : List A) (k : ℕ) (z : A) → k < length vs → i + length vs ≤ length d → getD (sets d i vs) (i + k) z ≡ getD vs k z
+  sets-at d i vs k z l h =
+      let e : i + k - i ≡ k = omega arith in
+      sets-in d i vs (i + k) z (omega arith) (omega arith) (omega arith) ∙ rw e
+
   pub sets-append : (d : List A) (i : ℕ) (xs ys : List A) → sets (sets d i xs) (i + length xs) ys ≡ sets d i (xs ++ ys)
   sets-append d i [] ys = rw add-zero
   sets-append d i (x ∷ xs) ys =
@@ -84,7 +92,12 @@ module _ {A : Type 0} where
   -- what was stored is read back
   pub sets-read : (d : List A) (i : ℕ) (vs : List A) → i + length vs ≤ length d → take (length vs) (drop i (sets d i vs)) ≡ vs
   sets-read d i vs h =
-      rw (sets-eq vs d i h, append-assoc (take i d) vs (drop (i + length vs) d), drop-at (take i d) (vs ++ drop (i + length vs) d) i (length-take-le i d (omega arith)))
+      rw (
+        sets-eq vs d i h,
+        append-assoc (take i d) vs (drop (i + length vs) d),
+        drop-at (take i d) (vs ++ drop (i + length vs) d) i
+            (length-take-le i d (omega arith)),
+      )
       (take-append-seam vs (drop (i + length vs) d))
 
   -- storing what is there changes nothing
@@ -104,6 +117,13 @@ module _ {A : Type 0} where
       ap (λ (l : List A). sets l (suc i) ys) (sym (sets-set (set d i x) (suc i) xs i y (inl (le-refl (suc i)))))
       ∙ sets-sets (set (set d i x) i y) (suc i) xs ys (suc-inj e)
       ∙ ap (λ (l : List A). sets l (suc i) ys) (set-set d i x y)
+
+-- one more word of a list that is being copied
+pub copied-more : (d t : List ℕ) (at i : ℕ) → i < length t
+    → set (sets d at (take i t)) (at + i) (getD t i 0) ≡ sets d at (take (i + 1) t)
+copied-more d t at i h =
+    let n : length (take i t) ≡ i = length-take-le i t (omega arith) in
+    rw (add-one i, take-suc t i 0 h, ← sets-append d at (take i t) (getD t i 0 ∷ []), n)
 
 -- ---- a run of zeros
 

@@ -8,8 +8,11 @@ use borrow.Author.Tests.{ltb-false}
 use lib.IntN.{ℤ}
 use lib.Dec.{eqb, leb, ltb}
 use lib.ListN.{length}
+use Rattle.literals.specs.Literal.{mostVariables}
 use Rattle.rules.specs.declared.Refusal.{Refusal}
-use Rattle.rules.specs.declared.Refusal.the-variants.{TooManyVariables, BadTable, BadCapacity, NoRoom, BadLiterals, BadWeight, SumTooLarge, BadReading, BadBudget, BadDesk, TooManySteps, BadLiteral, BadNaming, BadFit, DeskFull, NothingStands, InputTooLong, BadText}
+use Rattle.rules.specs.declared.Refusal.the-variants.{TooManyVariables, BadTable, BadCapacity, NoRoom, BadLiterals, BadWeight, SumTooLarge}
+use Rattle.rules.specs.declared.Refusal.the-variants.{BadReading, BadBudget, BadDesk, TooManySteps, BadLiteral, BadNaming, BadFit, DeskFull}
+use Rattle.rules.specs.declared.Refusal.the-variants.{NothingStands, InputTooLong, BadText}
 use Rattle.rules.specs.declared.Judged.{Judged}
 use Rattle.rules.specs.declared.Judged.the-variants.{Fine, Refused}
 use Rattle.rules.specs.declared.Parsed.{Parsed}
@@ -19,16 +22,18 @@ use Rattle.rules.specs.declared.HeadRead.{HeadRead}
 use Rattle.rules.specs.Refusals.{numberOf, placeOf, refuse, inOrder}
 use Rattle.masks.specs.Masks.{below}
 use Rattle.masks.proofs.Choice.{or-none}
-use Rattle.rules.specs.Table.{rowWords, mostRows, rowOf, rowCount, badTable, badLits, badWeight, rowWhy, rowsWhy, sumTooLarge, tableWhy, weighs, weighWhy, weighedAs, weighed}
+use Rattle.rules.specs.Table.{rowWords, mostRows, rowOf, rowCount, badTable, badLits, badWeight, rowWhy}
+use Rattle.rules.specs.Table.{rowsWhy, sumTooLarge, tableWhy, weighs, weighWhy, weighedAs, weighed, rowWordsOf}
 use Rattle.rules.specs.Desk.{mostCapacity, mostSteps, deskWords, inUse, capacity, standing, decisions, wellFormed, loadWhy}
 use Rattle.rules.specs.Decide.{badLiteral, decideWhy}
 use Rattle.rules.specs.Rewrite.{wellNamed, wellFitted, given, stored, rewriteWhy}
 use Rattle.rules.specs.TakeBack.{badLast, takeBackWhy}
 use Rattle.rules.specs.Bound.{bound, deskWhy, boundedAs, bounded}
-use Rattle.rules.specs.Walk.{mostBudget, walkOf, foundBy, searchedAs, searched}
-use Rattle.rules.specs.Text.{bytes, tableText, writeWhy, writtenAs, written}
+use Rattle.rules.specs.Walk.{mostBudget, walkIn, foundBy, searchedAs, searched}
+use Rattle.rules.specs.Text.{bytes, tableText, writeWhy, writtenAs, written, firstRowLine, rowLines}
 use Rattle.rules.specs.Program.{answer, answerWhy, answered}
-use Rattle.rules.specs.Reader.{RowsRead, rows, brokenAt, numberLine, litsLine, onNumber, rowBy, onRow, inFront, rowWordsOf, rowAt, rowsAt, headAt, restWhy, headWhy, readWhy, textReadAs, textRead}
+use Rattle.rules.specs.Reader.{RowsRead, rows, brokenAt, numberLine, litsLine, onNumber, rowBy, onRow}
+use Rattle.rules.specs.Reader.{inFront, rowAt, rowsAt, headAt, restWhy, headWhy, readWhy, textReadAs, textRead}
 use Rattle.olikumpasho.specs.Told.{placeIn, byWeighed, byBounded, bySearched, byTextRead, byWritten}
 
 abbrev Small : Judged → Type 0
@@ -102,13 +107,13 @@ sum-small n table e =
 table-small : (n : ℕ) (table : List ℕ) → Small (tableWhy n table)
 unfolding tableWhy
 table-small n table =
-    refuse-small (ltb 64 n) TooManyVariables _ (omega arith) (λ _.
+    refuse-small (ltb mostVariables n) TooManyVariables _ (omega arith) (λ _.
     refuse-small (badTable table) BadTable _ (omega arith) (sum-small n table))
 
 pub load-small : (n : ℕ) (table : List ℕ) (c : ℕ) (d : List ℕ) → Small (loadWhy n table c d)
 unfolding loadWhy
 load-small n table c d =
-    refuse-small (ltb 64 n) TooManyVariables _ (omega arith) (λ _.
+    refuse-small (ltb mostVariables n) TooManyVariables _ (omega arith) (λ _.
     refuse-small (badTable table) BadTable _ (omega arith) (λ e.
     refuse-small (ltb c (rowCount table) || ltb mostCapacity c) BadCapacity _ (omega arith) (λ _.
     refuse-small (ltb (length d) (deskWords c)) NoRoom _ (omega arith) (λ _. sum-small n table e))))
@@ -167,7 +172,7 @@ pub searched-small : (d : List ℕ) (budget : ℕ) → Small (bySearched (search
 unfolding searched
 searched-small d budget = as-judged (deskWhy d) (desk-small d)
   where
-    as-judged : (j : Judged) → Small j → Small (bySearched (searchedAs j (foundBy (walkOf (bound d) (λ v. true) d budget))))
+    as-judged : (j : Judged) → Small j → Small (bySearched (searchedAs j (foundBy (walkIn d budget))))
     as-judged Fine e = e
     as-judged (Refused r) e = e
 
@@ -217,57 +222,67 @@ row-within s at line = by-weight (numberLine s at (bytes "weight="))
     by-weight (Parsed.Number value next) = by-lits value (litsLine s next)
     by-weight Parsed.Broken = omega arith
 
-rows-within : (m : ℕ) (s : List ℕ) (at line : ℕ) → brokenLine (rowsAt m s at line) ≤ line + 2 * m
+rows-within : (m : ℕ) (s : List ℕ) (at line : ℕ) → brokenLine (rowsAt m s at line) ≤ line + rowLines * m
 unfolding rowsAt
 rows-within zero s at line = omega arith
-rows-within (suc m) s at line = by-row (rowAt s at line) (row-within s at line) (λ next. rows-within m s next (line + 2))
+rows-within (suc m) s at line = by-row (rowAt s at line) (row-within s at line) (λ next. rows-within m s next (line + rowLines))
   where
-    by-rest : (words : List ℕ) (r : RowsRead) → brokenLine r ≤ line + 2 + 2 * m → brokenLine (inFront words r) ≤ line + 2 * suc m
+    by-rest : (words : List ℕ) (r : RowsRead) → brokenLine r ≤ line + rowLines + rowLines * m → brokenLine (inFront words r) ≤ line + rowLines * suc m
     by-rest words (rows more next) e = omega arith
     by-rest words (brokenAt l) e = omega (arith, e)
 
-    by-row : (r : RowRead) → row-line r ≤ line + 1 → ((next : ℕ) → brokenLine (rowsAt m s next (line + 2)) ≤ line + 2 + 2 * m) → brokenLine (onRow r (λ row next. inFront (rowWordsOf row) (rowsAt m s next (line + 2)))) ≤ line + 2 * suc m
-    by-row (RowRead.Lines row next) e more = by-rest (rowWordsOf row) (rowsAt m s next (line + 2)) (more next)
+    by-row : (r : RowRead) → row-line r ≤ line + 1
+        → ((next : ℕ) → brokenLine (rowsAt m s next (line + rowLines)) ≤ line + rowLines + rowLines * m)
+        → brokenLine (onRow r (λ row next. inFront (rowWordsOf row) (rowsAt m s next (line + rowLines)))) ≤ line + rowLines * suc m
+    by-row (RowRead.Lines row next) e more = by-rest (rowWordsOf row) (rowsAt m s next (line + rowLines)) (more next)
     by-row (RowRead.Broken l) e more = omega (arith, e)
 
-rest-small : (s : List ℕ) (m : ℕ) (r : RowsRead) → m ≤ mostRows → brokenLine r ≤ 4 + 2 * m → Small (restWhy s m r)
-rest-small s m (rows words next) few e = refuse-small (not (eqb next (length s))) (BadText (4 + 2 * m)) Fine (omega (arith, few)) (λ _. omega arith)
+rest-small : (s : List ℕ) (m : ℕ) (r : RowsRead) → m ≤ mostRows → brokenLine r ≤ firstRowLine + rowLines * m → Small (restWhy s m r)
+rest-small s m (rows words next) few e =
+    refuse-small (not (eqb next (length s))) (BadText (firstRowLine + rowLines * m)) Fine (omega (arith, few)) (λ _. omega arith)
 rest-small s m (brokenAt line) few e = omega (arith, few, e)
 
 abbrev head-line : HeadRead → ℕ
 head-line (HeadRead.Lines variables budget m next) = 0
 head-line (HeadRead.Broken line) = line
 
-head-within : (s : List ℕ) → head-line (headAt s) ≤ 3
+head-within : (s : List ℕ) → head-line (headAt s) < firstRowLine
 unfolding headAt
 head-within s = by-vars (numberLine s 0 (bytes "vars="))
   where
-    by-rows : (v b : ℕ) (p : Parsed) → head-line (onNumber p (HeadRead.Broken 3) (λ m next. HeadRead.Lines v b m next)) ≤ 3
+    -- what is left of the head behind two of its lines, behind one, and all of it
+    from-rows : ℕ → ℕ → Parsed → HeadRead
+    from-rows v b p = onNumber p (HeadRead.Broken 3) (λ m next. HeadRead.Lines v b m next)
+
+    from-budget : ℕ → Parsed → HeadRead
+    from-budget v p = onNumber p (HeadRead.Broken 2) (λ b next. from-rows v b (numberLine s next (bytes "rows=")))
+
+    by-rows : (v b : ℕ) (p : Parsed) → head-line (from-rows v b p) < firstRowLine
     by-rows v b (Parsed.Number m next) = omega arith
     by-rows v b Parsed.Broken = omega arith
 
-    by-budget : (v : ℕ) (p : Parsed) → head-line (onNumber p (HeadRead.Broken 2) (λ b next. onNumber (numberLine s next (bytes "rows=")) (HeadRead.Broken 3) (λ m next. HeadRead.Lines v b m next))) ≤ 3
+    by-budget : (v : ℕ) (p : Parsed) → head-line (from-budget v p) < firstRowLine
     by-budget v (Parsed.Number b next) = by-rows v b (numberLine s next (bytes "rows="))
     by-budget v Parsed.Broken = omega arith
 
-    by-vars : (p : Parsed) → head-line (onNumber p (HeadRead.Broken 1) (λ v next. onNumber (numberLine s next (bytes "budget=")) (HeadRead.Broken 2) (λ b next. onNumber (numberLine s next (bytes "rows=")) (HeadRead.Broken 3) (λ m next. HeadRead.Lines v b m next)))) ≤ 3
+    by-vars : (p : Parsed) → head-line (onNumber p (HeadRead.Broken 1) (λ v next. from-budget v (numberLine s next (bytes "budget=")))) < firstRowLine
     by-vars (Parsed.Number v next) = by-budget v (numberLine s next (bytes "budget="))
     by-vars Parsed.Broken = omega arith
 
-head-small : (s : List ℕ) (room : ℕ) (h : HeadRead) → head-line h ≤ 3 → Small (headWhy s room h)
+head-small : (s : List ℕ) (room : ℕ) (h : HeadRead) → head-line h < firstRowLine → Small (headWhy s room h)
 head-small s room (HeadRead.Lines v b m next) e =
-    refuse-small (ltb 64 v) TooManyVariables _ (omega arith) (λ _.
+    refuse-small (ltb mostVariables v) TooManyVariables _ (omega arith) (λ _.
     refuse-small (ltb mostBudget b) BadBudget _ (omega arith) (λ _.
     refuse-small (ltb mostRows m) BadTable _ (omega arith) (λ few.
     refuse-small (ltb room (rowWords * m)) NoRoom _ (omega arith) (λ _.
-    rest-small s m (rowsAt m s next 4) (ltb-false mostRows m few) (rows-within m s next 4)))))
+    rest-small s m (rowsAt m s next firstRowLine) (ltb-false mostRows m few) (rows-within m s next firstRowLine)))))
 head-small s room (HeadRead.Broken line) e = omega (arith, e)
 
 pub read-small : (s : List ℕ) (room : ℕ) → Small (byTextRead (textRead s room))
 unfolding textRead readWhy
 read-small s room = as-judged (headAt s) (readWhy s room) (head-within s) (head-small s room (headAt s) (head-within s))
   where
-    as-judged : (h : HeadRead) (j : Judged) → head-line h ≤ 3 → Small j → Small (byTextRead (textReadAs j h))
+    as-judged : (h : HeadRead) (j : Judged) → head-line h < firstRowLine → Small j → Small (byTextRead (textReadAs j h))
     as-judged (HeadRead.Lines v b m next) Fine w e = e
     as-judged (HeadRead.Broken line) Fine w e = omega (arith, w)
     as-judged (HeadRead.Lines v b m next) (Refused r) w e = e

@@ -20,7 +20,7 @@ pub extern "C" fn olikumpasho_weight_of(
     ensures answer { λ r. ⌜ r ≡ told (byWeighed (weighed variables (now (table .entry)) reading)) ⌝ }
     ensures lent { λ _. ⌜ now (weight .exit) ≡ weightOut (weighed variables (now (table .entry)) reading) (now (weight .entry)) ⌝ }
 {
-    match desk::weight_of(variables, table, reading) {
+    match tables::weight_of(variables, table, reading) {
         Weighed::Refused(r) => tell(Judged::Refused(r)),
         Weighed::Weight(w) => {
             *weight = w;
@@ -55,7 +55,7 @@ pub extern "C" fn olikumpasho_decide(desk: &mut [u64], literal: i64) -> u64
     ensures answer { λ r. ⌜ r ≡ told (decideWhy (now (desk .entry)) literal) ⌝ }
     ensures lent { λ _. ⌜ now (desk .exit) ≡ decideDesk (now (desk .entry)) literal ⌝ }
 {
-    let decided = steps::decide(desk, literal);
+    let decided = deciding::decide(desk, literal);
     tell(decided)
 }
 
@@ -73,6 +73,6 @@ pub extern "C" fn olikumpasho_take_back(desk: &mut [u64]) -> u64
     ensures answer { λ r. ⌜ r ≡ told (takeBackWhy (now (desk .entry))) ⌝ }
     ensures lent { λ _. ⌜ now (desk .exit) ≡ takeBackDesk (now (desk .entry)) ⌝ }
 {
-    let taken = steps::take_back(desk);
+    let taken = taking_back::take_back(desk);
     tell(taken)
 }

@@ -16,7 +16,7 @@ pub extern "C" fn olikumpasho_read(text: &[u8], table: &mut [u64], head: &mut [u
     ensures words { λ _. ⌜ now (table .exit) ≡ readTable (now (text .entry)) (now (table .entry)) ⌝ }
     ensures lent { λ _. ⌜ now (head .exit) ≡ headOut (textRead (now (text .entry)) (length (now (table .entry)))) (now (head .entry)) ⌝ }
 {
-    match text::read(text, table) {
+    match reader::read(text, table) {
         TextRead::Refused(r) => tell(Judged::Refused(r)),
         TextRead::Table {
             variables,
@@ -41,7 +41,7 @@ pub extern "C" fn olikumpasho_write(
     ensures words { λ _. ⌜ now (output .exit) ≡ writeOut variables budget (now (table .entry)) (now (output .entry)) ⌝ }
     ensures lent { λ _. ⌜ now (size .exit) ≡ lengthOut (written variables budget (now (table .entry)) (now (output .entry))) (now (size .entry)) ⌝ }
 {
-    match text::write(variables, budget, table, output) {
+    match writer::write(variables, budget, table, output) {
         Written::Refused(r) => tell(Judged::Refused(r)),
         Written::Bytes(n) => {
             *size = n;

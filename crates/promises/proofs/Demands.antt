@@ -1,69 +1,54 @@
 -- The demands hold. Each is put together here from the laws of the crates below: steps and runs (step_laws), bound and walk (walk_laws), text (text_laws).
-use Prim.Native.Nat.{ℕ, _+_, _≤_, _<_}
+use Prim.Native.Nat.{ℕ, _+_, _≤_}
 use mathlib.Core.Path.{_≡_, refl, sym, ap, ap₂, _∙_, subst}
-use mathlib.Core.List.{List, [], _∷_, _++_, List·Memᴰ, List·Memᴰ·head, Memᴰ·append-right}
-use mathlib.Core.Bool.{Bool, true, false, not}
-use mathlib.Core.Logic.{_⊎_, inl, inr, ⊎-elim}
-use native.Mathlib.Omega.{arith}
+use mathlib.Core.List.{List, _++_}
+use mathlib.Core.Bool.{true}
 use borrow.Author.Tests.{eqb-true, le-ltb}
-use lib.ListN.{length, getD, drop}
-use lib.Dec.{eqb, ltb}
+use lib.ListN.{length, drop}
+use lib.Dec.{eqb}
 use lib.Bits.{bitAnd}
 use lib.IntN.{ℤ}
 use Rattle.masks.specs.Masks.{below}
-use Rattle.masks.proofs.Choice.{and-right}
-use Rattle.rules.specs.declared.Part.{Part}
-use Rattle.rules.specs.declared.Walked.{Walked}
-use Rattle.rules.specs.declared.Status.{Status}
-use Rattle.rules.specs.declared.Best.{Best}
-use Rattle.rules.specs.declared.Found.{Found}
+use Rattle.masks.proofs.Choice.{and-right, impossible}
 use Rattle.rules.specs.declared.HeadRead.{HeadRead}
 use Rattle.rules.specs.declared.Judged.{Judged}
 use Rattle.rules.specs.declared.Judged.the-variants.{Fine, Refused}
 use Rattle.rules.specs.declared.Bounded.{Bounded}
-use Rattle.rules.specs.declared.Searched.{Searched}
 use Rattle.rules.specs.declared.TextRead.{TextRead}
 use Rattle.rules.specs.declared.Written.{Written}
 use Rattle.rules.specs.Refusals.{isFine, unlessRefused}
 use Rattle.rules.specs.Table.{rowCount, weighs, tableWhy}
-use Rattle.rules.specs.Desk.{variables, decided, truths, deskWords, wellFormed, weightOn, loadWhy, loadStep, loadDesk, decisions, deskWeighs, keeps}
+use Rattle.rules.specs.Desk.{variables, decided, truths, deskWords, wellFormed, loadWhy, loadStep, loadDesk, decisions, deskWeighs, keeps}
 use Rattle.rules.specs.Decide.{decideWhy, decideStep, decideDesk}
 use Rattle.rules.specs.Rewrite.{rewriteWhy, rewriteStep, rewriteDesk}
 use Rattle.rules.specs.TakeBack.{takeBackWhy, takeBackStep, takeBackDesk}
 use Rattle.rules.specs.Bound.{bound, deskWhy, bounded}
-use Rattle.rules.specs.Walk.{undecided, atStart, bestOf, searched, foundBy}
+use Rattle.rules.specs.Walk.{searched}
 use Rattle.rules.specs.Text.{tableText, writeWhy, writeStep, written, writeOut}
 use Rattle.rules.specs.Reader.{headAt, readWhy, readWords, readStep, textRead, readTable}
 use Rattle.rules.specs.Program.{answer, answerWhy, answerStep, answered, answerOut}
 use Rattle.rules.specs.Calls.{Call, afterCalls}
 use Rattle.step_laws.specs.Standing.{standingCalls}
-use Rattle.step_laws.proofs.Formed.{formed}
+use Rattle.desk_laws.proofs.Formed.{formed}
 use Rattle.step_laws.proofs.Runs.{run-weighs, run-replays, run-accepted, run-standing, run-never-ten, run-formed}
-use Rattle.walk_laws.specs.Order.{Before}
-use Rattle.walk_laws.specs.Right.{Foremost}
-use Rattle.walk_laws.specs.Scan.{Chosen, chosen, scan, Least}
-use Rattle.walk_laws.proofs.Scans.{scan-outcome}
-use Rattle.walk_laws.proofs.Walks.{leaf-below}
-use Rattle.walk_laws.proofs.Meeting.{member-of-sublist, met-leaves}
-use Rattle.walk_laws.proofs.Bounds.{bound-below, weighs-most}
-use Rattle.walk_laws.proofs.Done.{bound-sound, leaf-keeps}
-use Rattle.walk_laws.proofs.Budgets.{search-met}
-use Rattle.walk_laws.proofs.Answers.{walkIn, found-well, done-foremost, stopped-nodes}
-use Rattle.text_laws.proofs.Admissible.{table-fine}
+use Rattle.walk_laws.proofs.Bounds.{bound-below}
+use Rattle.rules.proofs.Admissible.{table-fine}
 use Rattle.text_laws.proofs.RoundTrip.{ReadBack, round-trip}
 use Rattle.text_laws.proofs.Converse.{converse}
 use Rattle.promises.specs.Orders.{Rule, Said, accepted, refused, judged, reading, writing}
-use Rattle.promises.specs.Demands.{Refuses, Demand1, TrueFirst, Finished, metBy, BestOf, nothing, one, Stopped, Demand2, Kept, Demand3, Outcome, Permits, OneOutcome, Determined}
+use Rattle.promises.specs.Demands.{Refuses, Demand1, Demand2, Kept, Demand3}
 use Rattle.promises.proofs.EntryPoints as entry
-use Rattle.promises.proofs.Refusing.{firstOf, exactly, read-judged, written-judged, load-said, decide-said, rewrite-said, take-back-said, read-said, write-said, weigh-said, bound-said, search-said, answer-said}
+use Rattle.promises.proofs.Refusing.{firstOf, exactly, read-judged, written-judged, load-said, decide-said, rewrite-said, take-back-said}
+use Rattle.promises.proofs.Refusing.{read-said, write-said, weigh-said, bound-said, search-said, answer-said}
 use Rattle.promises.proofs.Programs.{program-answers}
-use Rattle.promises.proofs.Rewriting.{rewriting}
+use Rattle.promises.proofs.Rewriting.{rewriting, fourteen-when}
+use Rattle.promises.proofs.Searching.{search-finished, search-stopped, readings-in-order, search-stop-rule}
 
 -- ---- demand 1
 
 -- a refused call leaves what it found
 left : (j : Judged) (step found : List ℕ) (number place : ℕ) → judged j ≡ refused number place → unlessRefused j step found ≡ found
-left Fine step found number place e = let z : _≡_ {A = ℕ} 0 1 = cc in absurd (omega arith)
+left Fine step found number place e = impossible (cc)
 left (Refused r) step found number place e = refl
 
 load-refuses : (n : ℕ) (table : List ℕ) (c : ℕ) (d : List ℕ) (number place : ℕ) → judged (loadWhy n table c d) ≡ refused number place → loadDesk n table c d ≡ d
@@ -74,7 +59,8 @@ decide-refuses : (d : List ℕ) (literal : ℤ) (number place : ℕ) → judged 
 unfolding decideDesk
 decide-refuses d literal number place = left (decideWhy d literal) (decideStep d literal) d number place
 
-rewrite-refuses : (d : List ℕ) (kind : ℕ) (named : List ℕ) (number place : ℕ) → judged (rewriteWhy d kind named) ≡ refused number place → rewriteDesk d kind named ≡ d
+rewrite-refuses : (d : List ℕ) (kind : ℕ) (named : List ℕ) (number place : ℕ) → judged (rewriteWhy d kind named) ≡ refused number place
+    → rewriteDesk d kind named ≡ d
 unfolding rewriteDesk
 rewrite-refuses d kind named number place = left (rewriteWhy d kind named) (rewriteStep d kind named) d number place
 
@@ -87,7 +73,8 @@ unfolding textRead readTable readWhy
 read-refuses text table number place e =
     left (readWhy text (length table)) (readStep text table) table number place (sym (read-judged text (length table) (headAt text)) ∙ e)
 
-write-refuses : (n budget : ℕ) (table out : List ℕ) (number place : ℕ) → writing (written n budget table out) ≡ refused number place → writeOut n budget table out ≡ out
+write-refuses : (n budget : ℕ) (table out : List ℕ) (number place : ℕ) → writing (written n budget table out) ≡ refused number place
+    → writeOut n budget table out ≡ out
 unfolding written writeOut
 write-refuses n budget table out number place e =
     left (writeWhy n budget table out) (writeStep n budget table out) out number place (sym (written-judged (writeWhy n budget table out) _) ∙ e)
@@ -117,56 +104,6 @@ demand-1 =
 
 -- ---- demand 2
 
-true-first : {a b : ℕ} → Before (λ v. true) a b → TrueFirst a b
-true-first f = record { place = f .place; agree = f .agree; isTrue = f .mine; isFalse = f .other }
-
-search-finished : (d : List ℕ) (budget : ℕ) (f : Found) → searched d budget ≡ Searched.Found f → f .status ≡ Status.Done → Finished d f
-search-finished d budget f answer done =
-    let w = done-foremost d budget f answer done in
-    let most : Foremost (deskWeighs d) (λ v. true) d (w .1) (w .0) = w .3 in
-    record {
-      weight = w .0;
-      reading = w .1;
-      answers = w .2;
-      kept = most .keepsAll;
-      weighed = most .weighs;
-      least = most .least;
-      first = λ other k e. ⊎-elim inl (λ b. inr (true-first b)) (most .firstOf other k e);
-    }
-
--- every reading weighs less than what the walk starts with, so that none is kept only where none was met
-none-met : (d : List ℕ) (qs : List Part) → ((q : Part) → List·Memᴰ q qs → weightOn d + 1 ≤ deskWeighs d (q .truths)) → qs ≡ []
-none-met d [] h = refl
-none-met d (q ∷ qs) h = absurd (omega (arith, h q (List·Memᴰ·head refl), weighs-most d (q .truths)))
-
-best-of : (d : List ℕ) (qs : List Part) → ((q : Part) → List·Memᴰ q qs → keeps d (q .truths) ≡ true) → (c : Chosen)
-    → c ≡ scan (λ q. deskWeighs d (q .truths)) qs (chosen (atStart d)) → BestOf d qs (bestOf (c .kept) (c .best) (c .reading))
-unfolding atStart chosen
-best-of d qs keep c e =
-    let price : Part → ℕ = λ q. deskWeighs d (q .truths) in
-    ⊎-elim
-    (λ (n : (scan price qs (chosen (atStart d)) ≡ chosen (atStart d)) × ((q : Part) → List·Memᴰ q qs → weightOn d + 1 ≤ deskWeighs d (q .truths))).
-    rw (e ∙ n .0) (nothing (none-met d qs (n .1))))
-    (λ (l : Least price qs (weightOn d + 1) (scan price qs (chosen (atStart d)))).
-    let member : List·Memᴰ (l .leaf) qs = subst (λ (rs : List Part). List·Memᴰ (l .leaf) rs) (sym (l .stands)) (Memᴰ·append-right (l .front) (List·Memᴰ·head refl)) in
-    rw (e ∙ l .isKept) (one (l .front) (l .leaf) (l .rest) (l .stands) (keep (l .leaf) member) (l .inFront) (l .behind)))
-    (scan-outcome price qs (chosen (atStart d)))
-
-search-stopped : (d : List ℕ) (budget : ℕ) (f : Found) → searched d budget ≡ Searched.Found f → f .status ≡ Status.Stopped → Stopped d budget f
-unfolding chosen
-search-stopped d budget f answer stop =
-    let w = found-well d budget f answer in
-    let g = formed d (w .0) in
-    let lefts : List ℕ = undecided (variables d) (decided d) in
-    let keep : (q : Part) → List·Memᴰ q (metBy d budget) → keeps d (q .truths) ≡ true =
-    λ q m. leaf-keeps d g q (leaf-below (λ v. true) lefts (decisions d) q (member-of-sublist (met-leaves (bound d) (λ v. true) budget lefts (decisions d) (atStart d)) m)) in
-    let best : BestOf d (metBy d budget) (foundBy (walkIn d budget) .best) =
-    best-of d (metBy d budget) keep (chosen (walkIn d budget)) (search-met (bound d) (deskWeighs d) (λ v. true) d budget g (bound-sound d g)) in
-    record {
-      count = stopped-nodes d budget f answer stop;
-      best = rw (ap (λ (x : Found). x .best) (w .1)) best;
-    }
-
 table-writes : (n budget : ℕ) (table out : List ℕ) → tableWhy n table ≡ Fine → length (tableText n budget table) ≤ length out
     → (written n budget table out ≡ Written.Bytes (length (tableText n budget table)))
     × (writeOut n budget table out ≡ tableText n budget table ++ drop (length (tableText n budget table)) out)
@@ -185,7 +122,10 @@ demand-2 =
     record {
       finished = search-finished;
       stopped = search-stopped;
+      inOrder = readings-in-order;
+      stopRule = search-stop-rule;
       rewritten = rewriting;
+      fourteen = fourteen-when;
       writes = table-writes;
       readsBack = λ n budget table lent fine b room.
           let r = round-trip n budget table (length lent) (ap isFine fine) b room in
@@ -196,7 +136,8 @@ demand-2 =
 -- ---- demand 3
 
 -- a load depends on the words lent only past the desk
-load-fresh : (n : ℕ) (table : List ℕ) (c : ℕ) (d fresh : List ℕ) → drop (deskWords c) fresh ≡ drop (deskWords c) d → loadStep n table c fresh ≡ loadStep n table c d
+load-fresh : (n : ℕ) (table : List ℕ) (c : ℕ) (d fresh : List ℕ) → drop (deskWords c) fresh ≡ drop (deskWords c) d
+    → loadStep n table c fresh ≡ loadStep n table c d
 unfolding loadStep
 load-fresh n table c d fresh e = rw e
 
@@ -224,7 +165,8 @@ run-kept n table c d fine calls =
       weights = run-weighs n table c d fine calls;
       replayed = λ fresh ok past.
           run-replays n table c d fine calls
-          ∙ ap (λ (x : List ℕ). afterCalls x (standingCalls (loadStep n table c d) calls)) (sym (load-laid n table c fresh ok ∙ load-fresh n table c d fresh past));
+          ∙ ap (λ (x : List ℕ). afterCalls x (standingCalls (loadStep n table c d) calls))
+          (sym (load-laid n table c fresh ok ∙ load-fresh n table c d fresh past));
       standingCount = run-standing n table c d fine calls;
       replaysFine = run-accepted n table c d fine calls;
       bounds = λ full b answer k. subst (λ (x : ℕ). b ≤ x) (run-weighs n table c d fine calls full k) (bound-least after full b well answer k);
@@ -234,28 +176,3 @@ run-kept n table c d fine calls =
 
 pub demand-3 : Demand3
 demand-3 n table c d fine calls = rw (load-laid n table c d fine) (run-kept n table c d fine calls)
-
--- ---- determinacy
-
-coincide : {A : Type 0} (says : A) (after : List ℕ) → OneOutcome says after
-coincide says after x y p q =
-    let a = p .answer ∙ sym (q .answer) in
-    let w = p .words ∙ sym (q .words) in
-    λ t. record { answers = a t; leaves = w t }
-
-pub determined : Determined
-determined =
-    record {
-      load = λ n table c d. coincide (loadWhy n table c d) (loadDesk n table c d);
-      wellFormed = λ d. coincide (wellFormed d) d;
-      weight = λ n table full. coincide _ table;
-      decide = λ d literal. coincide (decideWhy d literal) (decideDesk d literal);
-      rewrite = λ d kind named. coincide (rewriteWhy d kind named) (rewriteDesk d kind named);
-      takeBack = λ d. coincide (takeBackWhy d) (takeBackDesk d);
-      bound = λ d. coincide (bounded d) d;
-      search = λ d budget. coincide (searched d budget) d;
-      read = λ text table. coincide (textRead text (length table)) (readTable text table);
-      write = λ n budget table out. coincide (written n budget table out) (writeOut n budget table out);
-      answer = λ input output. coincide (answered input output) (answerOut input output);
-      each = λ says after. coincide says after;
-    }

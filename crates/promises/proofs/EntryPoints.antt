@@ -9,14 +9,14 @@ use prog.Routine.{Routine}
 use prog.Wp.{Heap}
 use Rattle.desk.proofs.load.Met.{met as load-met}
 use Rattle.desk.proofs.well_formed.Met.{met as well-formed-met}
-use Rattle.desk.proofs.weight_of.Met.{met as weight-met}
-use Rattle.steps.proofs.decide.Met.{met as decide-met}
+use Rattle.tables.proofs.weight_of.Met.{met as weight-met}
+use Rattle.deciding.proofs.decide.Met.{met as decide-met}
 use Rattle.rewrites.proofs.rewrite.Met.{met as rewrite-met}
-use Rattle.steps.proofs.take_back.Met.{met as take-back-met}
+use Rattle.taking_back.proofs.take_back.Met.{met as take-back-met}
 use Rattle.bound.proofs.bound.Met.{met as bound-met}
 use Rattle.walk.proofs.search.Met.{met as search-met}
-use Rattle.text.proofs.read.Met.{met as read-met}
-use Rattle.text.proofs.write.Met.{met as write-met}
+use Rattle.reader.proofs.read.Met.{met as read-met}
+use Rattle.writer.proofs.write.Met.{met as write-met}
 use Rattle.answer.proofs.answer.Met.{met as answer-met}
 use Rattle.promises.specs.EntryPoints.{Met, NothingAsked}
 

@@ -8,6 +8,7 @@ use mathlib.Core.Logic.{_⊎_, inl, inr}
 use native.Mathlib.Omega.{arith}
 use lib.ListN.{length}
 use lib.IntN.{negsuc}
+use Rattle.masks.proofs.Choice.{impossible}
 use Rattle.masks.specs.Masks.{bit, has, count, without, none, below, single}
 use Rattle.masks.specs.Sums.{sum, every}
 use Rattle.masks.specs.Words.{zeroed}
@@ -20,18 +21,20 @@ use Rattle.rules.specs.declared.Found.{Found}
 use Rattle.rules.specs.declared.Bounded.{Bounded}
 use Rattle.rules.specs.declared.Searched.{Searched}
 use Rattle.rules.specs.declared.Judged.the-variants.{Fine}
-use Rattle.rules.specs.Table.{rowIn, rowOf, rowCount, holds, givenUp, badTable, badLits, badWeight, rowWhy, rowsWhy, sumTooLarge}
-use Rattle.rules.specs.Desk.{standing, rowPlace, entryPlace, deskWords, rowOn, weightOn, reaches, inLimits, rowsSound, weightFits, masksNest, wellFormed, loadWhy, loadStep, decisions, satisfied, remnant, deskWeighs, keeps}
-use Rattle.rules.specs.Decide.{entered, badLiteral, decideWhy, decisionEntry, decideStep}
-use Rattle.rules.specs.TakeBack.{lastPlace, lastKind, lastVariable, badDecision, badLast, withdrawn, undoDecision, takeBackStep, takeBackWhy}
+use Rattle.rules.specs.Table.{rowIn, rowOf, rowCount, holds, givenUp, badTable, badLits, badWeight, rowWhy, rowsWhy, sumTooLarge, rowWordsOf}
+use Rattle.rules.specs.Desk.{standing, rowPlace, entryPlace, deskWords, rowOn, weightOn, reaches, inLimits, rowsSound, weightFits, masksNest}
+use Rattle.rules.specs.Desk.{wellFormed, loadWhy, loadStep, decisions, satisfied, remnant, deskWeighs, keeps}
+use Rattle.rules.specs.Decide.{entered, badLiteral, decideWhy, decisionEntry, decideStep, decideDesk}
+use Rattle.rules.specs.TakeBack.{takeBackDesk, lastPlace, lastKind, lastVariable, badDecision, badLast, withdrawn, undoDecision, takeBackStep, takeBackWhy}
 use Rattle.rules.specs.Bound.{weightWhere, lostBeyond, lost, unitWeight, foreseenAt, foreseen, bound, deskWhy, bounded}
 use Rattle.rules.specs.Walk.{fixed, visited, keptAt, halted, walk, undecided, atStart, walkOf, searched}
-use Rattle.rules.specs.Reader.{rowWordsOf}
 use Rattle.rules.specs.Calls.{Call, decide, takeBack, afterCall, afterCalls}
 use Rattle.rules.specs.Examples.{x, not-x, row, lent, desk}
 use Rattle.step_laws.specs.Standing.{standingFrom, standingCalls}
 use Rattle.promises.specs.Orders.{accepted, refused, refusal, judged, ExactlyWhen, loadOrder}
-use Rattle.promises.specs.Demands.{Finished, Rewritten, Kept}
+use Rattle.promises.specs.Searches.{Finished}
+use Rattle.promises.specs.Rewritings.{Rewritten}
+use Rattle.promises.specs.Demands.{Kept}
 use Rattle.promises.proofs.Refusing.{exactly, load-said}
 
 abbrev p2 : List ℕ
@@ -48,7 +51,8 @@ p8 = row (x 1 ∷ x 2 ∷ []) 1 ++ row (not-x 2 ∷ []) 1
 
 -- "A refuser of everything falls to 'exactly when'": P2's table must be loaded.
 p2-loads : loadWhy 1 p2 2 (lent 2) ≡ Fine
-unfolding loadWhy deskWords rowPlace rowCount rowsWhy rowWhy rowOf rowIn badTable badLits badWeight sumTooLarge rowWordsOf litsOf bitOf size isPositive noLits together sum none without below single
+unfolding loadWhy deskWords rowPlace rowCount rowsWhy rowWhy rowOf rowIn badTable badLits badWeight sumTooLarge rowWordsOf litsOf bitOf size
+    isPositive noLits together sum none without below single
 p2-loads = refl
 
 pub no-refuser : (r : Refusal) → ExactlyWhen (refusal r) (loadOrder 1 p2 2 (lent 2)) → ⊥
@@ -60,7 +64,8 @@ no-refuser r e =
 
 -- "A search that returns one reading falls to P2 and P4": no answer with the all-true reading is that of a finished search on P4's desk.
 p4-weighs : (deskWeighs (desk 3 p4 5) 7 ≡ 2) × (deskWeighs (desk 3 p4 5) 6 ≡ 1) × (keeps (desk 3 p4 5) 6 ≡ true)
-unfolding deskWeighs keeps givenUp holds rowOn rowIn rowPlace rowCount loadStep deskWords rowWordsOf noLits together litsOf bitOf size isPositive sum bit without none below single
+unfolding deskWeighs keeps givenUp holds rowOn rowIn rowPlace rowCount loadStep deskWords rowWordsOf noLits together litsOf bitOf size isPositive sum
+    bit without none below single
 p4-weighs = (refl, refl, refl)
 
 pub no-one-reading : (f : Found) (w : ℕ) → f .best ≡ Best.Reading w 7 → Finished (desk 3 p4 5) f → ⊥
@@ -78,7 +83,11 @@ abbrev run : List Call
 run = decide (negsuc 0) ∷ takeBack ∷ []
 
 p8-stands : (standing (afterCalls (desk 2 p8 2) (decide (negsuc 0) ∷ [])) ≡ 1) × (length (standingCalls (desk 2 p8 2) run) ≡ 0)
-unfolding afterCalls afterCall standingCalls standingFrom decideWhy decideStep decisionEntry entered badLiteral wellFormed reaches inLimits rowsSound weightFits masksNest weightOn rowOn rowIn rowPlace entryPlace deskWords rowCount loadStep badLits rowWordsOf noLits together litsOf bitOf size isPositive isLiteral has bit sum every without none below single zeroed lastPlace lastKind lastVariable badDecision badLast withdrawn undoDecision takeBackStep takeBackWhy
+unfolding afterCalls afterCall standingCalls standingFrom decideWhy decideStep decideDesk takeBackDesk decisionEntry entered badLiteral wellFormed
+    reaches inLimits rowsSound
+    weightFits masksNest weightOn rowOn rowIn rowPlace entryPlace deskWords rowCount loadStep badLits rowWordsOf noLits together litsOf bitOf size
+    isPositive isLiteral has bit sum every without none below single zeroed lastPlace lastKind lastVariable badDecision badLast withdrawn undoDecision
+    takeBackStep takeBackWhy
 p8-stands = (refl, refl)
 
 pub no-idle-taking-back : Kept 2 p8 2 (lent 2) run (desk 2 p8 2) (afterCalls (desk 2 p8 2) (decide (negsuc 0) ∷ [])) → ⊥
@@ -88,20 +97,26 @@ no-idle-taking-back k = omega (arith, k .standingCount, p8-stands .0, p8-stands 
 abbrev p4-found : Status → ℕ → ℕ → ℕ → Searched
 p4-found status weight reading nodes = Searched.Found (record { status = status; best = Best.Reading weight reading; nodes = nodes })
 
-p4-searched : (searched (desk 3 p4 5) 6 ≡ p4-found Status.Stopped 2 7 6) × (searched (desk 3 p4 5) 10 ≡ p4-found Status.Stopped 1 6 10) × (searched (desk 3 p4 5) 11 ≡ p4-found Status.Done 1 6 11)
-unfolding searched walkOf walk fixed visited keptAt halted undecided atStart deskWhy bound lost lostBeyond foreseen foreseenAt unitWeight weightWhere isEmpty sameLits decisions satisfied remnant wellFormed reaches inLimits rowsSound weightFits masksNest weightOn rowOn rowIn rowPlace deskWords rowCount loadStep badLits rowWordsOf noLits together litsOf bitOf size isPositive has bit sum every without none below single
+p4-searched : (searched (desk 3 p4 5) 6 ≡ p4-found Status.Stopped 2 7 6) × (searched (desk 3 p4 5) 10 ≡ p4-found Status.Stopped 1 6 10) × (searched
+    (desk 3 p4 5) 11 ≡ p4-found Status.Done 1 6 11)
+unfolding searched walkOf walk fixed visited keptAt halted undecided atStart deskWhy bound lost lostBeyond foreseen foreseenAt unitWeight weightWhere
+    isEmpty sameLits decisions satisfied remnant wellFormed reaches inLimits rowsSound weightFits masksNest weightOn rowOn rowIn rowPlace deskWords
+    rowCount loadStep badLits rowWordsOf noLits together litsOf bitOf size isPositive has bit sum every without none below single
 p4-searched = (refl, refl, refl)
 
-pub no-pretended-walk : (f : Found) → (searched (desk 3 p4 5) 6 ≡ Searched.Found f) ⊎ (searched (desk 3 p4 5) 10 ≡ Searched.Found f) → f .status ≡ Status.Done → ⊥
-no-pretended-walk f (inl e) done = let a = p4-searched .0 in let s : f .status ≡ Status.Stopped = cc in let z : _≡_ {A = ℕ} 0 1 = cc in omega arith
-no-pretended-walk f (inr e) done = let a = p4-searched .1 in let s : f .status ≡ Status.Stopped = cc in let z : _≡_ {A = ℕ} 0 1 = cc in omega arith
+pub no-pretended-walk : (f : Found) → (searched (desk 3 p4 5) 6 ≡ Searched.Found f) ⊎ (searched (desk 3 p4 5) 10 ≡ Searched.Found f)
+    → f .status ≡ Status.Done → ⊥
+no-pretended-walk f (inl e) done = let a = p4-searched .0 in let s : f .status ≡ Status.Stopped = cc in impossible (cc)
+no-pretended-walk f (inr e) done = let a = p4-searched .1 in let s : f .status ≡ Status.Stopped = cc in impossible (cc)
 
 pub no-invented-count : (f : Found) → searched (desk 3 p4 5) 11 ≡ Searched.Found f → f .nodes ≡ 11
 no-invented-count f e = let a = p4-searched .2 in cc
 
 -- "a bound that is always 0" falls "to its definition and P2"
 p2-bound : bounded (desk 1 p2 2) ≡ Bounded.Bound 2
-unfolding bounded deskWhy bound lost lostBeyond foreseen foreseenAt unitWeight weightWhere isEmpty sameLits decisions satisfied remnant wellFormed reaches inLimits rowsSound weightFits masksNest weightOn rowOn rowIn rowPlace deskWords rowCount loadStep badLits rowWordsOf noLits together litsOf bitOf size isPositive has bit sum every without none below single
+unfolding bounded deskWhy bound lost lostBeyond foreseen foreseenAt unitWeight weightWhere isEmpty sameLits decisions satisfied remnant wellFormed
+    reaches inLimits rowsSound weightFits masksNest weightOn rowOn rowIn rowPlace deskWords rowCount loadStep badLits rowWordsOf noLits together
+    litsOf bitOf size isPositive has bit sum every without none below single
 p2-bound = refl
 
 pub no-zero-bound : bounded (desk 1 p2 2) ≡ Bounded.Bound 0 → ⊥

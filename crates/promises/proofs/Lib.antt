@@ -2,6 +2,10 @@ pub mod Refusing
 pub mod Programs
 pub mod EntryPoints
 pub mod Rewriting
+pub mod Searching
 pub mod Demands
 pub mod Frauds
 pub mod Embedding
+pub mod Ties
+pub mod Tied
+pub mod TiedC

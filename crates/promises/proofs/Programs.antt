@@ -7,6 +7,7 @@ use mathlib.Core.Bool.{Bool, true, false, cond}
 use native.Mathlib.Omega.{arith}
 use lib.ListN.{length, replicate}
 use lib.Dec.{ltb}
+use Rattle.masks.proofs.Choice.{impossible}
 use Rattle.rules.specs.declared.HeadRead.{HeadRead}
 use Rattle.rules.specs.declared.TextRead.{TextRead}
 use Rattle.rules.specs.declared.Found.{Found}
@@ -17,11 +18,12 @@ use Rattle.rules.specs.declared.Judged.the-variants.{Fine, Refused}
 use Rattle.rules.specs.Table.{rowWords, mostRows}
 use Rattle.rules.specs.Desk.{deskWords, wellFormed, loadWhy, loadStep}
 use Rattle.rules.specs.Bound.{bound, deskWhy}
-use Rattle.rules.specs.Walk.{walkOf, foundBy, searched}
+use Rattle.rules.specs.Walk.{walkIn, foundBy, searched}
 use Rattle.rules.specs.Reader.{headAt, headWhy, readWhy, textReadAs, textRead, readWords}
 use Rattle.rules.specs.Program.{mostInput, refusalText, foundText, programDesk, loadedAnswer, readAnswer, answer}
 use Rattle.step_laws.proofs.Steps.{load-formed}
-use Rattle.promises.specs.Orders.{Rule, gives, NoneDue, FirstDue, Said, accepted, refused, judged, loadOrder, headOrder, readOrder, programLoad, programOrder, refusalLines, Solved, ProgramAnswers}
+use Rattle.promises.specs.Orders.{Rule, rule, NoneDue, FirstDue, Said, accepted, refused, judged, loadOrder, headOrder, readOrder}
+use Rattle.promises.specs.Orders.{programLoad, programOrder, refusalLines, Solved, ProgramAnswers}
 use Rattle.promises.proofs.Refusing.{orThen, orElse, firstOf, first-append, due-first, due-none, load-said, head-said}
 
 abbrev saidText : Said → List ℕ → List ℕ
@@ -30,7 +32,7 @@ saidText (refused number place) found = refusalLines number place
 
 -- what the search finds on the desk of a text that is read
 abbrev foundIn : List ℕ → ℕ → ℕ → ℕ → Found
-foundIn table n b m = foundBy (walkOf (bound (programDesk n m table)) (λ v. true) (programDesk n m table) b)
+foundIn table n b m = foundBy (walkIn (programDesk n m table) b)
 
 abbrev foundLines : List ℕ → HeadRead → List ℕ
 foundLines table (HeadRead.Lines n b m from) = foundText n (foundIn table n b m)
@@ -42,7 +44,8 @@ loaded-text Fine found = refl
 loaded-text (Refused r) found = refl
 
 lines-text : (table : List ℕ) (n b m from : ℕ) (j : Judged)
-    → readAnswer table (textReadAs j (HeadRead.Lines n b m from)) ≡ saidText (orThen (judged j) (firstOf (loadOrder n table m (replicate (deskWords m) 0)))) (foundText n (foundIn table n b m))
+    → readAnswer table (textReadAs j (HeadRead.Lines n b m from)) ≡ saidText
+    (orThen (judged j) (firstOf (loadOrder n table m (replicate (deskWords m) 0)))) (foundText n (foundIn table n b m))
 unfolding refusalText refusalLines
 lines-text table n b m from Fine =
     loaded-text (loadWhy n table m (replicate (deskWords m) 0)) (foundText n (foundIn table n b m))
@@ -55,7 +58,8 @@ unfolding refusalText refusalLines
 read-text s room table (HeadRead.Lines n b m from) = lines-text table n b m from (headWhy s room (HeadRead.Lines n b m from))
 read-text s room table (HeadRead.Broken line) = refl
 
-over-text : (over : Bool) (found : List ℕ) (after : Said) → cond over (refusalText InputTooLong) (saidText after found) ≡ saidText (orElse over (refused 19 0) after) found
+over-text : (over : Bool) (found : List ℕ) (after : Said)
+    → cond over (refusalText InputTooLong) (saidText after found) ≡ saidText (orElse over (refused 19 0) after) found
 unfolding refusalText refusalLines
 over-text true found after = refl
 over-text false found after = refl
@@ -68,13 +72,14 @@ program-text input =
     let h : HeadRead = headAt input in
     let after : orThen (judged (headWhy input room h)) (firstOf (programLoad table h)) ≡ firstOf (headOrder input room h ++ programLoad table h) =
     ap (λ (x : Said). orThen x (firstOf (programLoad table h))) (head-said input room h) ∙ sym (first-append (headOrder input room h) (programLoad table h)) in
-    ap (cond (ltb mostInput (length input)) (refusalText InputTooLong)) (read-text input room table h ∙ ap (λ (x : Said). saidText x (foundLines table h)) after)
+    ap (cond (ltb mostInput (length input)) (refusalText InputTooLong))
+    (read-text input room table h ∙ ap (λ (x : Said). saidText x (foundLines table h)) after)
     ∙ over-text (ltb mostInput (length input)) (foundLines table h) (firstOf (headOrder input room h ++ programLoad table h))
 
 -- ---- none due
 
 not-accepted : (number place : ℕ) → refused number place ≡ accepted → ⊥
-not-accepted number place e = let z : _≡_ {A = ℕ} 0 1 = cc in omega arith
+not-accepted number place e = impossible (cc)
 
 judged-fine : (j : Judged) → judged j ≡ accepted → j ≡ Fine
 judged-fine Fine e = refl
@@ -88,7 +93,7 @@ rest-accepted : (due : Bool) (number place : ℕ) (after : Said) → orElse due 
 rest-accepted true number place after e = absurd (not-accepted number place e)
 rest-accepted false number place after e = e
 
-search-found : (d : List ℕ) (budget : ℕ) → wellFormed d ≡ true → searched d budget ≡ Searched.Found (foundBy (walkOf (bound d) (λ v. true) d budget))
+search-found : (d : List ℕ) (budget : ℕ) → wellFormed d ≡ true → searched d budget ≡ Searched.Found (foundBy (walkIn d budget))
 unfolding searched deskWhy
 search-found d budget w = rw w
 
@@ -96,7 +101,8 @@ module _ (input : List ℕ) (all : firstOf (programOrder input) ≡ accepted) wh
   parts : (firstOf (readOrder input (rowWords * mostRows)) ≡ accepted) × (firstOf (programLoad (readWords input) (headAt input)) ≡ accepted)
   unfolding programOrder firstOf
   parts =
-      let rest : firstOf (readOrder input (rowWords * mostRows) ++ programLoad (readWords input) (headAt input)) ≡ accepted = rest-accepted (ltb mostInput (length input)) 19 0 _ all in
+      let rest : firstOf (readOrder input (rowWords * mostRows) ++ programLoad (readWords input) (headAt input)) ≡ accepted =
+      rest-accepted (ltb mostInput (length input)) 19 0 _ all in
       both-accepted (firstOf (readOrder input (rowWords * mostRows))) (firstOf (programLoad (readWords input) (headAt input)))
       (sym (first-append (readOrder input (rowWords * mostRows)) (programLoad (readWords input) (headAt input))) ∙ rest)
 
@@ -134,6 +140,7 @@ module _ (input : List ℕ) (all : firstOf (programOrder input) ≡ accepted) wh
 pub program-answers : (input : List ℕ) → ProgramAnswers input
 program-answers input =
     record {
-      refused-when = λ number place f. program-text input ∙ ap (λ (x : Said). saidText x (foundLines (readWords input) (headAt input))) (due-first (programOrder input) f);
+      refused-when =
+          λ number place f. program-text input ∙ ap (λ (x : Said). saidText x (foundLines (readWords input) (headAt input))) (due-first (programOrder input) f);
       accepted-when = λ n. solved input (due-none (programOrder input) n);
     }

@@ -8,9 +8,12 @@ use native.Mathlib.Omega.{arith}
 use lib.ListN.{length, replicate}
 use lib.Dec.{eqb, leb, ltb}
 use lib.IntN.{ℤ}
+use Rattle.masks.proofs.Choice.{impossible}
 use Rattle.rules.specs.declared.HeadRead.{HeadRead}
 use Rattle.rules.specs.declared.Refusal.{Refusal}
-use Rattle.rules.specs.declared.Refusal.the-variants.{TooManyVariables, BadTable, BadCapacity, NoRoom, BadLiterals, BadWeight, SumTooLarge, BadReading, BadBudget, BadDesk, TooManySteps, BadLiteral, BadNaming, BadFit, DeskFull, NothingStands, InputTooLong, BadText}
+use Rattle.rules.specs.declared.Refusal.the-variants.{TooManyVariables, BadTable, BadCapacity, NoRoom, BadLiterals, BadWeight, SumTooLarge}
+use Rattle.rules.specs.declared.Refusal.the-variants.{BadReading, BadBudget, BadDesk, TooManySteps, BadLiteral, BadNaming, BadFit, DeskFull}
+use Rattle.rules.specs.declared.Refusal.the-variants.{NothingStands, InputTooLong, BadText}
 use Rattle.rules.specs.declared.Judged.{Judged}
 use Rattle.rules.specs.declared.Judged.the-variants.{Fine, Refused}
 use Rattle.rules.specs.declared.Found.{Found}
@@ -26,7 +29,10 @@ use Rattle.rules.specs.Walk.{foundBy, walkOf, searchedAs, searched}
 use Rattle.rules.specs.Text.{tableText, writeWhy, writtenAs, written}
 use Rattle.rules.specs.Program.{mostInput, refusalText, foundText, programDesk, loadedAnswer, readAnswer, answer, answerWhy, answered}
 use Rattle.rules.specs.Reader.{RowsRead, rows, brokenAt, rowsAt, headAt, restWhy, headWhy, readWhy, textReadAs, textRead, readWords}
-use Rattle.promises.specs.Orders.{Rule, gives, givesAt, NoneDue, none, next, FirstDue, here, later, Said, accepted, refused, refusal, judged, weighing, bounding, searching, reading, writing, ExactlyWhen, rowsOrder, loadOrder, tableOrder, weighOrder, writeOrder, restOrder, headOrder, readOrder, decideOrder, rewriteOrder, takeBackOrder, deskOrder, answerOrder, programLoad, programOrder}
+use Rattle.promises.specs.Orders.{Rule, rule, ruleAt, NoneDue, none, next, FirstDue, here, later, Said, accepted, refused, refusal, judged}
+use Rattle.promises.specs.Orders.{weighing, bounding, searching, reading, writing, ExactlyWhen, rowsOrder, loadOrder, tableOrder, weighOrder}
+use Rattle.promises.specs.Orders.{writeOrder, restOrder, headOrder, readOrder, decideOrder, rewriteOrder, takeBackOrder, deskOrder}
+use Rattle.promises.specs.Orders.{answerOrder, programLoad, programOrder}
 
 -- ---- any order
 
@@ -43,7 +49,7 @@ refused-number : (a b c d : ℕ) → refused a b ≡ refused c d → (a ≡ c) �
 refused-number a b c d e = (cc, cc)
 
 never-both : (a b : ℕ) → accepted ≡ refused a b → ⊥
-never-both a b e = let z : _≡_ {A = ℕ} 0 1 = cc in omega arith
+never-both a b e = impossible (cc)
 
 first-due : (order : List Rule) (number place : ℕ) → firstOf order ≡ refused number place → FirstDue order number place
 unfolding firstOf
@@ -94,7 +100,7 @@ orThen accepted after = after
 orThen (refused number place) after = refused number place
 
 test : (b : Bool) (r : Refusal) (after : Judged) (order : List Rule) → judged after ≡ firstOf order
-    → judged (refuse b r after) ≡ firstOf (givesAt (numberOf r) (placeOf r) b ∷ order)
+    → judged (refuse b r after) ≡ firstOf (ruleAt (numberOf r) (placeOf r) b ∷ order)
 unfolding firstOf
 test true r after order e = refl
 test false r after order e = e
@@ -121,7 +127,7 @@ fine : judged Fine ≡ firstOf []
 unfolding firstOf
 fine = refl
 
-last : (b : Bool) (r : Refusal) → judged (refuse b r Fine) ≡ firstOf (givesAt (numberOf r) (placeOf r) b ∷ [])
+last : (b : Bool) (r : Refusal) → judged (refuse b r Fine) ≡ firstOf (ruleAt (numberOf r) (placeOf r) b ∷ [])
 last b r = test b r Fine [] fine
 
 -- ---- the calls
@@ -129,11 +135,15 @@ last b r = test b r Fine [] fine
 rows-said : (n : ℕ) (table : List ℕ) (k : ℕ) → judged (rowsWhy n table k) ≡ firstOf (rowsOrder n table k)
 unfolding rowsWhy rowWhy rowsOrder
 rows-said n table zero = fine
-rows-said n table (suc k) = both (rowsWhy n table k) (rowWhy n k (rowOf table k)) (rowsOrder n table k) _ (rows-said n table k) (test _ (BadLiterals k) _ _ (last _ (BadWeight k)))
+rows-said n table (suc k) =
+    both (rowsWhy n table k) (rowWhy n k (rowOf table k)) (rowsOrder n table k) _ (rows-said n table k) (test _ (BadLiterals k) _ _ (last _ (BadWeight k)))
 
 rows-and-sum : (n : ℕ) (table : List ℕ)
-    → judged (inOrder (rowsWhy n table (rowCount table)) (refuse (sumTooLarge table) SumTooLarge Fine)) ≡ firstOf (rowsOrder n table (rowCount table) ++ (gives 7 (sumTooLarge table) ∷ []))
-rows-and-sum n table = both (rowsWhy n table (rowCount table)) (refuse (sumTooLarge table) SumTooLarge Fine) _ _ (rows-said n table (rowCount table)) (last (sumTooLarge table) SumTooLarge)
+    → judged (inOrder (rowsWhy n table (rowCount table)) (refuse (sumTooLarge table) SumTooLarge Fine)) ≡ firstOf
+    (rowsOrder n table (rowCount table) ++ (rule 7 (sumTooLarge table) ∷ []))
+rows-and-sum n table =
+    both (rowsWhy n table (rowCount table)) (refuse (sumTooLarge table) SumTooLarge Fine) _ _ (rows-said n table (rowCount table))
+    (last (sumTooLarge table) SumTooLarge)
 
 pub load-said : (n : ℕ) (table : List ℕ) (c : ℕ) (d : List ℕ) → judged (loadWhy n table c d) ≡ firstOf (loadOrder n table c d)
 unfolding loadWhy loadOrder
@@ -149,7 +159,8 @@ weighed-judged (Refused r) w = refl
 
 pub weigh-said : (n : ℕ) (table : List ℕ) (full : ℕ) → weighing (weighed n table full) ≡ firstOf (weighOrder n table full)
 unfolding weighed weighWhy weighOrder
-weigh-said n table full = weighed-judged (weighWhy n table full) (weighs table full) ∙ both (tableWhy n table) _ (tableOrder n table) _ (table-said n table) (last _ BadReading)
+weigh-said n table full =
+    weighed-judged (weighWhy n table full) (weighs table full) ∙ both (tableWhy n table) _ (tableOrder n table) _ (table-said n table) (last _ BadReading)
 
 pub written-judged : (j : Judged) (k : ℕ) → writing (writtenAs j k) ≡ judged j
 written-judged Fine k = refl
@@ -157,7 +168,8 @@ written-judged (Refused r) k = refl
 
 pub write-said : (n budget : ℕ) (table out : List ℕ) → writing (written n budget table out) ≡ firstOf (writeOrder n budget table out)
 unfolding written writeWhy writeOrder
-write-said n budget table out = written-judged (writeWhy n budget table out) _ ∙ both (tableWhy n table) _ (tableOrder n table) _ (table-said n table) (last _ NoRoom)
+write-said n budget table out =
+    written-judged (writeWhy n budget table out) _ ∙ both (tableWhy n table) _ (tableOrder n table) _ (table-said n table) (last _ NoRoom)
 
 rest-said : (s : List ℕ) (m : ℕ) (r : RowsRead) → judged (restWhy s m r) ≡ firstOf (restOrder s m r)
 unfolding firstOf

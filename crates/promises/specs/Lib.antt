@@ -1,4 +1,9 @@
 pub mod Orders
 pub mod EntryPoints
+pub mod Searches
+pub mod Rewritings
 pub mod Demands
 pub mod Embedding
+pub mod Ties
+pub mod Tied
+pub mod TiedC

@@ -38,11 +38,11 @@ pub record Rule : Type 0 where
   pub due : Bool
 
 -- "Place is 0 unless given."
-abbrev pub gives : ℕ → Bool → Rule
-gives number due = record { number = number; place = 0; due = due }
+abbrev pub rule : ℕ → Bool → Rule
+rule number due = record { number = number; place = 0; due = due }
 
-abbrev pub givesAt : ℕ → ℕ → Bool → Rule
-givesAt number place due = record { number = number; place = place; due = due }
+abbrev pub ruleAt : ℕ → ℕ → Bool → Rule
+ruleAt number place due = record { number = number; place = place; due = due }
 
 -- no refusal of the list is due
 pub data NoneDue : List Rule → Type 0 where
@@ -101,48 +101,48 @@ unfoldable pub rowsOrder : ℕ → List ℕ → ℕ → List Rule
 rowsOrder n table zero = []
 rowsOrder n table (suc k) =
     rowsOrder n table k
-    ++ (givesAt 5 k (badLits n (rowOf table k .lits))
-    ∷ givesAt 6 k (badWeight (rowOf table k .weight)) ∷ [])
+    ++ (ruleAt 5 k (badLits n (rowOf table k .lits))
+    ∷ ruleAt 6 k (badWeight (rowOf table k .weight)) ∷ [])
 
 -- "Load: 1, 2, 3, 4, rows in order with 5 before 6, then 7."
 unfoldable pub loadOrder : ℕ → List ℕ → ℕ → List ℕ → List Rule
 loadOrder n table c d =
-    gives 1 (ltb mostVariables n)
-    ∷ gives 2 (badTable table)
-    ∷ gives 3 (ltb c (rowCount table) || ltb mostCapacity c)
-    ∷ gives 4 (ltb (length d) (deskWords c))
+    rule 1 (ltb mostVariables n)
+    ∷ rule 2 (badTable table)
+    ∷ rule 3 (ltb c (rowCount table) || ltb mostCapacity c)
+    ∷ rule 4 (ltb (length d) (deskWords c))
     ∷ (rowsOrder n table (rowCount table)
-    ++ (gives 7 (sumTooLarge table) ∷ []))
+    ++ (rule 7 (sumTooLarge table) ∷ []))
 
 -- 1, 2, rows, 7, with which two orders begin
 unfoldable pub tableOrder : ℕ → List ℕ → List Rule
 tableOrder n table =
-    gives 1 (ltb mostVariables n)
-    ∷ gives 2 (badTable table)
+    rule 1 (ltb mostVariables n)
+    ∷ rule 2 (badTable table)
     ∷ (rowsOrder n table (rowCount table)
-    ++ (gives 7 (sumTooLarge table) ∷ []))
+    ++ (rule 7 (sumTooLarge table) ∷ []))
 
 -- "Weight of a reading: 1, 2, rows, 7, 8."
 unfoldable pub weighOrder : ℕ → List ℕ → ℕ → List Rule
-weighOrder n table full = tableOrder n table ++ (gives 8 (not (below full n)) ∷ [])
+weighOrder n table full = tableOrder n table ++ (rule 8 (not (below full n)) ∷ [])
 
 -- "Writer: 1, 2, rows, 7, 4."
 unfoldable pub writeOrder : ℕ → ℕ → List ℕ → List ℕ → List Rule
-writeOrder n budget table out = tableOrder n table ++ (gives 4 (ltb (length out) (length (tableText n budget table))) ∷ [])
+writeOrder n budget table out = tableOrder n table ++ (rule 4 (ltb (length out) (length (tableText n budget table))) ∷ [])
 
 -- "the rest (20)": the first line from line 4 on that breaks the form, or the line behind the last row where something follows it
 abbrev pub restOrder : List ℕ → ℕ → RowsRead → List Rule
-restOrder s m (rows words end) = givesAt 20 (4 + 2 * m) (not (eqb end (length s))) ∷ []
-restOrder s m (brokenAt line) = givesAt 20 line true ∷ []
+restOrder s m (rows words end) = ruleAt 20 (4 + 2 * m) (not (eqb end (length s))) ∷ []
+restOrder s m (brokenAt line) = ruleAt 20 line true ∷ []
 
 -- "first three lines (20)": the first of them that breaks the form, else their figures
 abbrev pub headOrder : List ℕ → ℕ → HeadRead → List Rule
-headOrder s room (HeadRead.Broken line) = givesAt 20 line true ∷ []
+headOrder s room (HeadRead.Broken line) = ruleAt 20 line true ∷ []
 headOrder s room (HeadRead.Lines n budget m from) =
-    gives 1 (ltb mostVariables n)
-    ∷ gives 9 (ltb mostBudget budget)
-    ∷ gives 2 (ltb mostRows m)
-    ∷ gives 4 (ltb room (rowWords * m))
+    rule 1 (ltb mostVariables n)
+    ∷ rule 9 (ltb mostBudget budget)
+    ∷ rule 2 (ltb mostRows m)
+    ∷ rule 4 (ltb room (rowWords * m))
     ∷ restOrder s m (rowsAt m s from 4)
 
 -- "Reader: first three lines (20), 1, 9, 2, 4, the rest (20)."
@@ -152,29 +152,29 @@ readOrder s room = headOrder s room (headAt s)
 -- "Decide: 10, 11, 12."
 unfoldable pub decideOrder : List ℕ → ℤ → List Rule
 decideOrder d literal =
-    gives 10 (not (wellFormed d))
-    ∷ gives 11 (leb mostSteps (standing d))
-    ∷ gives 12 (badLiteral d literal) ∷ []
+    rule 10 (not (wellFormed d))
+    ∷ rule 11 (leb mostSteps (standing d))
+    ∷ rule 12 (badLiteral d literal) ∷ []
 
 -- "Rewriting: 10, 11, 13, 14, 15."
 unfoldable pub rewriteOrder : List ℕ → ℕ → List ℕ → List Rule
 rewriteOrder d kind named =
-    gives 10 (not (wellFormed d))
-    ∷ gives 11 (leb mostSteps (standing d))
-    ∷ gives 13 (not (wellNamed d kind named))
-    ∷ gives 14 (not (wellFitted d kind named))
-    ∷ gives 15 (ltb (capacity d) (inUse d + length (stored (given d kind named)))) ∷ []
+    rule 10 (not (wellFormed d))
+    ∷ rule 11 (leb mostSteps (standing d))
+    ∷ rule 13 (not (wellNamed d kind named))
+    ∷ rule 14 (not (wellFitted d kind named))
+    ∷ rule 15 (ltb (capacity d) (inUse d + length (stored (given d kind named)))) ∷ []
 
 -- "Taking back: 10 for the desk, 16, 10 for the entry."
 unfoldable pub takeBackOrder : List ℕ → List Rule
 takeBackOrder d =
-    gives 10 (not (wellFormed d))
-    ∷ gives 16 (eqb (standing d) 0)
-    ∷ gives 10 (badLast d) ∷ []
+    rule 10 (not (wellFormed d))
+    ∷ rule 16 (eqb (standing d) 0)
+    ∷ rule 10 (badLast d) ∷ []
 
 -- "Bound and search: 10."
 unfoldable pub deskOrder : List ℕ → List Rule
-deskOrder d = gives 10 (not (wellFormed d)) ∷ []
+deskOrder d = rule 10 (not (wellFormed d)) ∷ []
 
 -- the load of the program, whose desk has as many rows as the text says
 abbrev pub programLoad : List ℕ → HeadRead → List Rule
@@ -184,13 +184,13 @@ programLoad table (HeadRead.Lines n budget m from) = loadOrder n table m (replic
 -- "Program: 19, reader, load."
 unfoldable pub programOrder : List ℕ → List Rule
 programOrder input =
-    gives 19 (ltb mostInput (length input))
+    rule 19 (ltb mostInput (length input))
     ∷ (readOrder input (rowWords * mostRows)
     ++ programLoad (readWords input) (headAt input))
 
 -- the answer into lent bytes, whatever it says: "4: the lent output .. is too short"
 unfoldable pub answerOrder : List ℕ → List ℕ → List Rule
-answerOrder input output = gives 4 (ltb (length output) (length (answer input))) ∷ []
+answerOrder input output = rule 4 (ltb (length output) (length (answer input))) ∷ []
 
 -- "A refusal writes three lines: `status=refused`, `number=`, `place=`."
 unfoldable pub refusalLines : ℕ → ℕ → List ℕ

@@ -1,6 +1,6 @@
 -- What an accepted rewriting has shown, in the words of the functions that write it: the named rows can lose w, the new rows have room,
 -- what is conceded is owed by the kind, and an entry is left.
-use Prim.Native.Nat.{ℕ, _+_, _-_, _*_, _^_, _≤_, _<_}
+use Prim.Native.Nat.{ℕ, suc, _+_, _-_, _*_, _^_, _≤_, _<_}
 use mathlib.Core.Path.{_≡_, refl, sym, ap, _∙_, subst}
 use mathlib.Core.Logic.{⊎-elim, inl}
 use mathlib.Core.List.{List, [], _∷_, _++_}
@@ -19,18 +19,29 @@ use Rattle.rules.specs.Table.{rowWords, mostWeight}
 use Rattle.rules.specs.Desk.{headWords, variables, inUse, capacity, standing, conceded, mostSteps, entryWords, rowPlace, deskWords, rowOn, weightOn}
 use Rattle.rules.specs.Rewrite.{remnantOf, gives, stored, empties, given, lightest, reweighed, laid, fewerAdded, concedes, rewritingEntry, rewriteStep}
 use Rattle.rules.specs.Decide.{entered}
-use Rattle.step_laws.proofs.Formed.{Formed}
-use Rattle.step_laws.proofs.Stores.{length-reweighed, reweighed-out, length-laid, laid-out}
-use Rattle.step_laws.proofs.Verdicts.{Rewritten}
+use Rattle.desk_laws.proofs.Formed.{rows-inside}
+use Rattle.desk_laws.proofs.Stores.{length-reweighed, reweighed-head, length-laid, laid-out}
+use Rattle.desk_laws.proofs.Verdicts.{Rewritten}
 use Rattle.step_laws.proofs.ByKind.{Yields, yields}
 use Rattle.step_laws.proofs.Accepted.{plan}
-use Rattle.desk.specs.Room.{EntryLeft}
-use Rattle.naming.specs.Reweigh.{Reweighable}
-use Rattle.naming.proofs.Pairs.{concedes-once}
-use Rattle.rewrites.specs.Rows.{OnDesk, Behind, WellNamed, Fitting, addedRows}
-use Rattle.rewrites.proofs.Counts.{well-named, two-named}
-use Rattle.rewrites.proofs.Namings.{Names, on-desk, named-sound, added-stored}
-use Rattle.rewrites.proofs.Laying.{remnant-reweighed, lies-still}
+use Rattle.words.specs.Room.{EntryLeft}
+use Rattle.named.specs.Reweigh.{Reweighable}
+use Rattle.named.proofs.Pairs.{concedes-once}
+use Rattle.fitting.specs.Rows.{OnDesk, WellNamed, addedRows}
+use Rattle.laying.specs.Room.{Behind, Fitting}
+use Rattle.fitting.proofs.Counts.{well-named, two-named}
+use Rattle.fitting.proofs.Namings.{Names, on-desk, named-sound, added-stored}
+use Rattle.laying.proofs.Laying.{remnant-reweighed, lies-still}
+
+-- an entry is left, whatever rows in use and conceded are set to
+pub left-still : (d : List ℕ) (a b : ℕ) → EntryLeft d → EntryLeft (set (set d 1 a) 4 b)
+left-still d a b e =
+    let same : (p : ℕ) → (p ≡ 1 → ⊥) → (p ≡ 4 → ⊥) → getD (set (set d 1 a) 4 b) p 0 ≡ getD d p 0 =
+    λ p x y. getD-set-other (set d 1 a) 4 p b 0 y ∙ getD-set-other d 1 p a 0 x in
+    let c = same 2 (λ q. omega arith) (λ q. omega arith) in
+    let s = same 3 (λ q. omega arith) (λ q. omega arith) in
+    let n : length (set (set d 1 a) 4 b) ≡ length d = length-set (set d 1 a) 4 b ∙ length-set d 1 a in
+    record { fits = omega (arith, c, e .fits); reach = omega (arith, c, n, e .reach); left = omega (arith, s, e .left) }
 
 module _ (d : List ℕ) (kind : ℕ) (named : List ℕ) (ok : Rewritten d kind named) where
   abbrev pub w : ℕ
@@ -43,7 +54,13 @@ module _ (d : List ℕ) (kind : ℕ) (named : List ℕ) (ok : Rewritten d kind n
   lowered = reweighed (λ x. x - w) row d (length named)
 
   pub named-well : Names d kind named
-  named-well = record { count = well-named kind (length named) (ok .known .0) (ok .known .1) (ok .counted); fitting = ok .counted; used = ok .used; apart = ok .apart }
+  named-well =
+      record {
+        count = well-named kind (length named) (ok .known .0) (ok .known .1) (ok .counted);
+        fitting = ok .counted;
+        used = ok .used;
+        apart = ok .apart;
+      }
 
   pub lies : OnDesk d named
   lies = on-desk d named (ok .desk) (ok .used)
@@ -90,7 +107,9 @@ module _ (d : List ℕ) (kind : ℕ) (named : List ℕ) (ok : Rewritten d kind n
   length-lowered = length-reweighed (λ x. x - w) row d (length named)
 
   same-remnants : remnantOf lowered named ≡ remnantOf d named
-  same-remnants = remnant-reweighed (λ x. x - w) row d named (length named)
+  same-remnants =
+      remnant-reweighed (λ x. x - w) row d named (length named)
+      (λ i l. rows-inside (ok .desk) (suc (row i)) (omega (arith, ok .used i l, ok .desk .fitting)))
 
   pub can-lay : Fitting lowered kind named (inUse d)
   unfolding given deskWords rowPlace
@@ -118,20 +137,17 @@ module _ (d : List ℕ) (kind : ℕ) (named : List ℕ) (ok : Rewritten d kind n
   unfolding rowPlace
   head-out p h =
       laid-out lowered (inUse d) w (stored (given d kind named)) p (inl (omega arith))
-      ∙ reweighed-out (λ x. x - w) row d (length named) p (λ i l e. omega arith)
+      ∙ reweighed-head (λ x. x - w) row d (length named) p h
 
-  -- an entry is left, whatever the rows in use and conceded are set to
-  pub entry-still : (a b : ℕ) → EntryLeft (set (set laidOut 1 a) 4 b)
+  -- an entry is left
+  pub entry-still : EntryLeft laidOut
   unfolding deskWords rowPlace
-  entry-still a b =
-      let same : (p : ℕ) → p < headWords → (p ≡ 1 → ⊥) → (p ≡ 4 → ⊥) → getD (set (set laidOut 1 a) 4 b) p 0 ≡ getD d p 0 =
-      λ p h x y. getD-set-other (set laidOut 1 a) 4 p b 0 y ∙ getD-set-other laidOut 1 p a 0 x ∙ head-out p h in
-      let c = same 2 (omega arith) (λ q. omega arith) (λ q. omega arith) in
-      let s = same 3 (omega arith) (λ q. omega arith) (λ q. omega arith) in
-      let n : length (set (set laidOut 1 a) 4 b) ≡ length d = length-set (set laidOut 1 a) 4 b ∙ length-set laidOut 1 a ∙ length-out in
+  entry-still =
+      let c = head-out 2 (omega arith) in
+      let s = head-out 3 (omega arith) in
       record {
         fits = omega (arith, c, ok .desk .roomy);
-        reach = omega (arith, c, n, ok .desk .reaching);
+        reach = omega (arith, c, length-out, ok .desk .reaching);
         left = omega (arith, s, ok .room);
       }
 

@@ -1,14 +1,21 @@
-// The rewritings: merge, shift, chain and fork, on the remnants of named rows.
-mod judge;
-mod lay;
-mod remnants;
-mod rewriting;
+// The rewritings: merge, shift, chain and fork. A rewriting is judged whole, then written.
+ghost use mathlib.Core.Path.{_≡_};
+ghost use Rattle.rules.specs.Rewrite.{rewriteWhy, rewriteDesk};
+use fitting::rewrite_why;
+use inner::rewrite_step;
+use rules::Judged;
 
-use literals::Lits;
-pub use rewriting::rewrite;
+pub mod inner;
 
-// What following a chain comes to: whether its rows fit so far, and the literal that the last of them fixes.
-pub struct Link {
-    pub fits: bool,
-    pub lit: Lits,
+// Merge, shift, chain or fork on the named rows.
+pub fn rewrite(desk: &mut [u64], kind: u64, named: &[u64]) -> Judged
+    ensures { λ r. ⌜ r ≡ rewriteWhy (now (desk .entry)) kind (now (named .entry)) ⌝ }
+    ensures { λ _. ⌜ now (desk .exit) ≡ rewriteDesk (now (desk .entry)) kind (now (named .entry)) ⌝ }
+{
+    let why = rewrite_why(desk, kind, named);
+    let Judged::Fine = why else {
+        return why;
+    };
+    rewrite_step(desk, kind, named);
+    Judged::Fine
 }

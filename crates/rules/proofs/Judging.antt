@@ -4,13 +4,14 @@ use mathlib.Core.Path.{_≡_, refl}
 use mathlib.Core.Bool.{Bool, true, false}
 use mathlib.Core.List.{List}
 use native.Mathlib.Omega.{arith}
+use Rattle.masks.proofs.Choice.{impossible}
 use Rattle.rules.specs.declared.Refusal.{Refusal}
 use Rattle.rules.specs.declared.Judged.{Judged}
 use Rattle.rules.specs.declared.Judged.the-variants.{Fine, Refused}
 use Rattle.rules.specs.Refusals.{refuse, inOrder, isFine, unlessRefused}
 
 pub never-fine : (r : Refusal) → Refused r ≡ Fine → ⊥
-never-fine r e = let z : _≡_ {A = ℕ} 0 1 = cc in omega arith
+never-fine r e = impossible (cc)
 
 pub refuse-fine : (b : Bool) (r : Refusal) (after : Judged) → refuse b r after ≡ Fine → (b ≡ false) × (after ≡ Fine)
 refuse-fine true r after e = absurd (never-fine r e)
@@ -25,7 +26,7 @@ is-fine Fine e = refl
 is-fine (Refused r) e = let z : _≡_ {A = Bool} true false = cc in absurd (distinct z)
   where
     distinct : true ≡ false → ⊥
-    distinct e = let z : _≡_ {A = ℕ} 0 1 = cc in omega arith
+    distinct e = impossible (cc)
 
 -- the words after a call that is fine, and after one that is refused
 pub words-fine : (j : Judged) (step found : List ℕ) → j ≡ Fine → unlessRefused j step found ≡ step

@@ -1,3 +1,4 @@
 pub mod Examples
 pub mod Judging
+pub mod Admissible
 pub mod Mistakes

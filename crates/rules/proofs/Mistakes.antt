@@ -12,10 +12,9 @@ use Rattle.literals.specs.declared.Lits.{Lits}
 use Rattle.literals.specs.Literal.{size, isPositive, isLiteral, bitOf, litsOf}
 use Rattle.literals.specs.Lits.{noLits, together, variablesOf, isEmpty, isOne}
 use Rattle.rules.specs.declared.Part.{Part}
-use Rattle.rules.specs.Table.{rowIn, rowCount, holds, givenUp}
+use Rattle.rules.specs.Table.{rowIn, rowCount, holds, givenUp, rowWordsOf}
 use Rattle.rules.specs.Desk.{inUse, rowPlace, deskWords, rowOn, loadStep, decisions, satisfied, remnant, deskWeighs, keeps}
 use Rattle.rules.specs.Bound.{weightWhere, lostBeyond, lost}
-use Rattle.rules.specs.Reader.{rowWordsOf}
 use Rattle.rules.specs.Examples.{x, not-x, all, row, lent, desk}
 
 -- the remnant of the first unsatisfied row, of those below n, that holds one literal
@@ -43,10 +42,12 @@ p4 =
 
 -- "On P4 it claims 2 empty clauses"
 pub claims-two : propagated 3 p4 (decisions p4) ≡ 2
-unfolding propagated firstUnit p4 lost lostBeyond weightWhere decisions satisfied remnant rowOn rowIn rowPlace rowCount loadStep deskWords rowWordsOf noLits together variablesOf isEmpty isOne litsOf bitOf size isPositive sum count bit without none single
+unfolding propagated firstUnit p4 lost lostBeyond weightWhere decisions satisfied remnant rowOn rowIn rowPlace rowCount loadStep deskWords rowWordsOf
+    noLits together variablesOf isEmpty isOne litsOf bitOf size isPositive sum count bit without none single
 claims-two = refl
 
 -- "readings with x1 false break one": here x2 and x3 are true
 pub breaks-one : deskWeighs p4 6 ≡ 1
-unfolding p4 deskWeighs givenUp holds rowOn rowIn rowPlace rowCount loadStep deskWords rowWordsOf noLits together litsOf bitOf size isPositive sum bit without none single
+unfolding p4 deskWeighs givenUp holds rowOn rowIn rowPlace rowCount loadStep deskWords rowWordsOf noLits together litsOf bitOf size isPositive sum bit
+    without none single
 breaks-one = refl

@@ -4,9 +4,9 @@ use mathlib.Core.List.{List, [], _∷_}
 use lib.IntN.{ℤ}
 use Rattle.rules.specs.declared.Judged.{Judged}
 pub use Rattle.rules.specs.Refusals.{unlessRefused}
-use Rattle.rules.specs.Decide.{decideWhy, decideStep}
-use Rattle.rules.specs.Rewrite.{rewriteWhy, rewriteStep}
-use Rattle.rules.specs.TakeBack.{takeBackWhy, takeBackStep}
+use Rattle.rules.specs.Decide.{decideWhy, decideDesk}
+use Rattle.rules.specs.Rewrite.{rewriteWhy, rewriteDesk}
+use Rattle.rules.specs.TakeBack.{takeBackWhy, takeBackDesk}
 
 pub data Call : Type 0 where
   decide : ℤ → Call
@@ -18,15 +18,11 @@ callWhy d (decide l) = decideWhy d l
 callWhy d (rewrite kind named) = rewriteWhy d kind named
 callWhy d takeBack = takeBackWhy d
 
-abbrev pub callStep : List ℕ → Call → List ℕ
-callStep d (decide l) = decideStep d l
-callStep d (rewrite kind named) = rewriteStep d kind named
-callStep d takeBack = takeBackStep d
-
+-- the words after a call, refused or not: those of the call's own contract
 unfoldable pub afterCall : List ℕ → Call → List ℕ
-afterCall d call =
-    let step = callStep d call in
-    unlessRefused (callWhy d call) step d
+afterCall d (decide l) = decideDesk d l
+afterCall d (rewrite kind named) = rewriteDesk d kind named
+afterCall d takeBack = takeBackDesk d
 
 unfoldable pub afterCalls : List ℕ → List Call → List ℕ
 afterCalls d [] = d

@@ -17,7 +17,7 @@ use Rattle.rules.specs.declared.Refusal.the-variants.{TooManyVariables, 
 use Rattle.rules.specs.declared.Judged.{Judged}
 use Rattle.rules.specs.declared.Judged.the-variants.{Fine}
 use Rattle.rules.specs.Refusals.{refuse, inOrder, unlessRefused}
-use Rattle.rules.specs.Table.{rowWords, mostRows, mostWeight, rowIn, rowCount, givenUp, badTable, badLits, rowsWhy, sumTooLarge}
+use Rattle.rules.specs.Table.{rowWords, mostRows, mostWeight, rowIn, rowWordsOf, withWeight, rowCount, givenUp, badTable, badLits, rowsWhy, sumTooLarge}
 
 abbrev pub headWords : ℕ
 headWords = 8
@@ -83,12 +83,12 @@ deskWords c = rowPlace c + mostSteps * entryWords
 unfoldable pub rowOn : List ℕ → ℕ → Row
 rowOn d i = rowIn d (rowPlace i)
 
--- Row i of the desk given these literals and this weight, or this weight alone.
-unfoldable pub setRow : List ℕ → ℕ → Lits → ℕ → List ℕ
-setRow d i l w = sets d (rowPlace i) (l .positive ∷ l .negative ∷ w ∷ [])
+-- Row i of the desk becomes this row, or gets this weight.
+unfoldable pub setRow : List ℕ → ℕ → Row → List ℕ
+setRow d i row = sets d (rowPlace i) (rowWordsOf row)
 
 unfoldable pub setWeight : List ℕ → ℕ → ℕ → List ℕ
-setWeight d i w = set d (rowPlace i + 2) w
+setWeight d i w = setRow d i (withWeight (rowOn d i) w)
 
 -- conceded plus all weights in use
 unfoldable pub weightOn : List ℕ → ℕ

@@ -1,5 +1,5 @@
 -- Document 01, "Examples, marked P where proved": one table. A row has the example's name, what the definitions give, and what document 01
--- says, both as numbers.
+-- says, both as numbers. Further examples, with names that do not start with P, are in Further.antt.
 use Prim.Native.Nat.{ℕ, zero, suc, _+_, _^_, _-_}
 use Prim.Native.String.{String}
 use mathlib.Core.List.{List, [], _∷_, _++_}
@@ -16,11 +16,10 @@ use Rattle.rules.specs.declared.Refusal.{Refusal}
 use Rattle.rules.specs.declared.Judged.{Judged}
 use Rattle.rules.specs.declared.Judged.the-variants.{Fine, Refused}
 use Rattle.rules.specs.Refusals.{numberOf, placeOf}
-use Rattle.rules.specs.Table.{weighs}
+use Rattle.rules.specs.Table.{weighs, rowWordsOf}
 use Rattle.rules.specs.Desk.{inUse, conceded, rowOn, deskWords, loadWhy, loadStep, deskWeighs}
 use Rattle.rules.specs.Bound.{bounded}
 use Rattle.rules.specs.Text.{bytes}
-use Rattle.rules.specs.Reader.{rowWordsOf}
 use Rattle.rules.specs.Program.{answer}
 use Rattle.rules.specs.Calls.{Call, decide, rewrite, takeBack, callWhy, afterCall, afterCalls}
 
@@ -62,7 +61,7 @@ abbrev pub desk : ℕ → List ℕ → ℕ → List ℕ
 desk n table c = loadStep n table c (lent c)
 
 -- an answer that is a number and a place, or nothing
-abbrev refusal : Judged → List ℕ
+abbrev pub refusal : Judged → List ℕ
 refusal Fine = []
 refusal (Refused r) = numberOf r ∷ placeOf r ∷ []
 
@@ -75,22 +74,22 @@ abbrev rowsOn : List ℕ → ℕ → List ℕ
 rowsOn d zero = []
 rowsOn d (suc n) = rowsOn d n ++ rowWordsOf (rowOn d n)
 
-abbrev account : List ℕ → List ℕ
+abbrev pub account : List ℕ → List ℕ
 account d = conceded d ∷ rowsOn d (inUse d)
 
 abbrev p4 : String
 p4 = "rows=5\nweight=1\nlits=1\nweight=1\nlits=-1 2\nweight=1\nlits=-1 -2\nweight=1\nlits=-1 3\nweight=1\nlits=-1 -3\n"
 
-abbrev p5 : List ℕ
+abbrev pub p5 : List ℕ
 p5 = row (x 1 ∷ []) 3 ++ (row (x 2 ∷ []) 5 ++ row (not-x 1 ∷ not-x 2 ∷ []) 2)
 
-abbrev p8 : List ℕ
+abbrev pub p8 : List ℕ
 p8 = row (x 1 ∷ x 2 ∷ []) 1 ++ row (not-x 2 ∷ []) 1
 
 abbrev p6 : List ℕ
 p6 = row (x 1 ∷ []) 1 ++ (row (not-x 1 ∷ x 2 ∷ []) 1 ++ (row (not-x 1 ∷ x 3 ∷ []) 1 ++ row (not-x 2 ∷ not-x 3 ∷ []) 1))
 
-abbrev p7 : List ℕ
+abbrev pub p7 : List ℕ
 p7 = row (x 1 ∷ x 2 ∷ []) 4 ++ row (not-x 1 ∷ x 2 ∷ []) 1
 
 -- P8 after x1 is decided false, and after the merge
@@ -103,7 +102,7 @@ p8-merged = afterCall p8-decided (rewrite 1 (0 ∷ 1 ∷ []))
 abbrev p10 : ℕ → ℕ → Judged
 p10 v w = loadWhy 1 (row (x 1 ∷ []) v ++ row (not-x 1 ∷ []) w) 2 (lent 2)
 
-abbrev example : String → List ℕ → List ℕ → Example
+abbrev pub example : String → List ℕ → List ℕ → Example
 example name gives says = record { name = name; gives = gives; says = says }
 
 abbrev pub examples : List Example

@@ -4,7 +4,7 @@ use Rattle.literals.specs.Literal.{mostVariables}
 use Rattle.rules.specs.declared.Figures.{Figures}
 use Rattle.rules.specs.Table.{rowWords, mostRows, mostWeight}
 use Rattle.rules.specs.Desk.{headWords, mostCapacity, mostSteps, entryWords}
-use Rattle.rules.specs.Rewrite.{mostNamed, longest}
+use Rattle.rules.specs.Rewrite.{mostKind, mostNamed, longest}
 use Rattle.rules.specs.Walk.{mostBudget}
 use Rattle.rules.specs.Text.{mostDigits}
 use Rattle.rules.specs.Program.{mostInput}
@@ -21,6 +21,7 @@ figures =
       steps = mostSteps;
       «entry_words» = entryWords;
       «entries_words» = mostSteps * entryWords;
+      kind = mostKind;
       named = mostNamed;
       longest = longest;
       digits = mostDigits;

@@ -12,3 +12,4 @@ pub mod Program
 pub mod Figures
 pub mod Calls
 pub mod Examples
+pub mod Further

@@ -18,8 +18,7 @@ use Rattle.rules.specs.declared.Written.{Written}
 use Rattle.rules.specs.Refusals.{numberOf, placeOf, refuse, unlessRefused}
 use Rattle.rules.specs.Table.{rowWords, mostRows}
 use Rattle.rules.specs.Desk.{deskWords, loadWhy, loadStep}
-use Rattle.rules.specs.Bound.{bound}
-use Rattle.rules.specs.Walk.{walkOf, foundBy}
+use Rattle.rules.specs.Walk.{walkIn, foundBy}
 use Rattle.rules.specs.Text.{bytes, numberText, line, litsText, writtenAs}
 use Rattle.rules.specs.Reader.{textRead, readWords}
 
@@ -63,7 +62,7 @@ loadedAnswer (Refused r) found = refusalText r
 abbrev pub readAnswer : List ℕ → TextRead → List ℕ
 readAnswer table (TextRead.Table variables budget m) =
     let d = programDesk variables m table in
-    let found = foundText variables (foundBy (walkOf (bound d) (λ v. true) d budget)) in
+    let found = foundText variables (foundBy (walkIn d budget)) in
     loadedAnswer (loadWhy variables table m (replicate (deskWords m) 0)) found
 readAnswer table (TextRead.Refused r) = refusalText r
 

@@ -21,9 +21,9 @@ use Rattle.rules.specs.declared.Judged.{Judged}
 use Rattle.rules.specs.declared.Judged.the-variants.{Fine, Refused}
 use Rattle.rules.specs.Refusals.{refuse}
 use Rattle.rules.specs.Calls.{unlessRefused}
-use Rattle.rules.specs.Table.{rowWords, mostRows}
+use Rattle.rules.specs.Table.{rowWords, mostRows, rowWordsOf}
 use Rattle.rules.specs.Walk.{mostBudget}
-use Rattle.rules.specs.Text.{bytes, lineFeed, space, minus, digitZero, mostDigits}
+use Rattle.rules.specs.Text.{bytes, lineFeed, space, minus, digitZero, mostDigits, firstRowLine, rowLines}
 
 -- these bytes stand at the place
 unfoldable pub stands : List ℕ → ℕ → List ℕ → Bool
@@ -115,16 +115,13 @@ abbrev pub onRow : RowRead → (Row → ℕ → RowsRead) → RowsRead
 onRow (RowRead.Lines row next) go = go row next
 onRow (RowRead.Broken line) go = brokenAt line
 
-unfoldable pub rowWordsOf : Row → List ℕ
-rowWordsOf row = row .lits .positive ∷ row .lits .negative ∷ row .weight ∷ []
-
 abbrev pub inFront : List ℕ → RowsRead → RowsRead
 inFront words (rows more next) = rows (words ++ more) next
 inFront words (brokenAt line) = brokenAt line
 
 unfoldable pub rowsAt : ℕ → List ℕ → ℕ → ℕ → RowsRead
 rowsAt zero s at line = rows [] at
-rowsAt (suc m) s at line = onRow (rowAt s at line) (λ row next. inFront (rowWordsOf row) (rowsAt m s next (line + 2)))
+rowsAt (suc m) s at line = onRow (rowAt s at line) (λ row next. inFront (rowWordsOf row) (rowsAt m s next (line + rowLines)))
 
 -- the first three lines
 unfoldable pub headAt : List ℕ → HeadRead
@@ -133,9 +130,9 @@ headAt s =
     onNumber (numberLine s next (bytes "budget=")) (HeadRead.Broken 2) (λ budget next.
     onNumber (numberLine s next (bytes "rows=")) (HeadRead.Broken 3) (λ m next. HeadRead.Lines variables budget m next)))
 
--- "the rest": the rows from line 4 on; "Nothing follows the last row."
+-- "the rest": the rows from their first line on; "Nothing follows the last row."
 abbrev pub restWhy : List ℕ → ℕ → RowsRead → Judged
-restWhy s m (rows words next) = refuse (not (eqb next (length s))) (BadText (4 + 2 * m)) Fine
+restWhy s m (rows words next) = refuse (not (eqb next (length s))) (BadText (firstRowLine + rowLines * m)) Fine
 restWhy s m (brokenAt line) = Refused (BadText line)
 
 -- Reader: first three lines (20), 1, 9, 2, 4, the rest (20).
@@ -145,7 +142,7 @@ headWhy s room (HeadRead.Lines variables budget m next) =
     (refuse (ltb mostBudget budget) BadBudget
     (refuse (ltb mostRows m) BadTable
     (refuse (ltb room (rowWords * m)) NoRoom
-    (restWhy s m (rowsAt m s next 4)))))
+    (restWhy s m (rowsAt m s next firstRowLine)))))
 headWhy s room (HeadRead.Broken line) = Refused (BadText line)
 
 unfoldable pub readWhy : List ℕ → ℕ → Judged
@@ -156,12 +153,12 @@ abbrev pub wordsOf : RowsRead → List ℕ
 wordsOf (rows words next) = words
 wordsOf (brokenAt line) = []
 
-abbrev pub headWords : List ℕ → HeadRead → List ℕ
-headWords s (HeadRead.Lines variables budget m next) = wordsOf (rowsAt m s next 4)
-headWords s (HeadRead.Broken line) = []
+abbrev pub wordsBehind : List ℕ → HeadRead → List ℕ
+wordsBehind s (HeadRead.Lines variables budget m next) = wordsOf (rowsAt m s next firstRowLine)
+wordsBehind s (HeadRead.Broken line) = []
 
 unfoldable pub readWords : List ℕ → List ℕ
-readWords s = headWords s (headAt s)
+readWords s = wordsBehind s (headAt s)
 
 unfoldable pub readStep : List ℕ → List ℕ → List ℕ
 readStep s table =

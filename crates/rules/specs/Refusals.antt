@@ -3,7 +3,9 @@ use Prim.Native.Nat.{ℕ}
 use mathlib.Core.Bool.{Bool, true, false}
 use mathlib.Core.List.{List}
 use Rattle.rules.specs.declared.Refusal.{Refusal}
-use Rattle.rules.specs.declared.Refusal.the-variants.{TooManyVariables, BadTable, BadCapacity, NoRoom, BadLiterals, BadWeight, SumTooLarge, BadReading, BadBudget, BadDesk, TooManySteps, BadLiteral, BadNaming, BadFit, DeskFull, NothingStands, InputTooLong, BadText}
+use Rattle.rules.specs.declared.Refusal.the-variants.{TooManyVariables, BadTable, BadCapacity, NoRoom, BadLiterals, BadWeight, SumTooLarge}
+use Rattle.rules.specs.declared.Refusal.the-variants.{BadReading, BadBudget, BadDesk, TooManySteps, BadLiteral, BadNaming, BadFit, DeskFull}
+use Rattle.rules.specs.declared.Refusal.the-variants.{NothingStands, InputTooLong, BadText}
 use Rattle.rules.specs.declared.Judged.{Judged}
 use Rattle.rules.specs.declared.Judged.the-variants.{Fine, Refused}
 

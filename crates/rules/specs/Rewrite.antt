@@ -14,8 +14,13 @@ use Rattle.rules.specs.declared.Refusal.the-variants.{BadDesk, TooManySt
 use Rattle.rules.specs.declared.Judged.{Judged}
 use Rattle.rules.specs.declared.Judged.the-variants.{Fine}
 use Rattle.rules.specs.Refusals.{refuse, unlessRefused}
+use Rattle.rules.specs.Table.{newRow}
 use Rattle.rules.specs.Desk.{inUse, capacity, standing, conceded, mostSteps, rowOn, setRow, setWeight, wellFormed, decisions, satisfied, remnant, spent}
 use Rattle.rules.specs.Decide.{entered}
+
+-- the last kind of step
+abbrev pub mostKind : ℕ
+mostKind = 4
 
 -- "k is 0 to 8"
 abbrev pub longest : ℕ
@@ -53,7 +58,7 @@ distinct n row = every n (λ j. every j (λ i. not (eqb (row i) (row j))))
 -- 13: a rewriting's kind not 1 to 4, wrong count of rows, row not in use, or a row named twice
 unfoldable pub wellNamed : List ℕ → ℕ → List ℕ → Bool
 wellNamed d kind named =
-    leb 1 kind && (leb kind 4 && (countFits kind (length named)
+    leb 1 kind && (leb kind mostKind && (countFits kind (length named)
     && (every (length named) (λ i. ltb (getD named i 0) (inUse d)) && distinct (length named) (λ i. getD named i 0))))
 
 -- the remnant of the i-th named row
@@ -168,7 +173,7 @@ reweighed new row d (suc n) =
 -- rows of weight w from row i on
 unfoldable pub laid : List ℕ → ℕ → ℕ → List Lits → List ℕ
 laid d i w [] = d
-laid d i w (l ∷ ls) = laid (setRow d i l w) (suc i) w ls
+laid d i w (l ∷ ls) = laid (setRow d i (newRow l w)) (suc i) w ls
 
 -- "A rewriting's entry: kind, weight w, count of rows named, up to 12 row numbers, 0 in those not needed, and last the first new row"
 unfoldable pub rewritingEntry : ℕ → ℕ → List ℕ → ℕ → List ℕ

@@ -1,6 +1,6 @@
 -- Document 01, "The clause table": rows, an admissible table, the weight of a reading.
 use Prim.Native.Nat.{ℕ, zero, suc, _+_, _*_, _/_, _%_}
-use mathlib.Core.List.{List}
+use mathlib.Core.List.{List, [], _∷_}
 use mathlib.Core.Bool.{Bool, cond, not, _&&_, _||_}
 use lib.ListN.{length, getD}
 use lib.Bits.{bitAnd}
@@ -34,6 +34,17 @@ rowIn words at =
       lits = record { positive = getD words at 0; negative = getD words (at + 1) 0 };
       weight = getD words (at + 2) 0;
     }
+
+-- the words of a row
+unfoldable pub rowWordsOf : Row → List ℕ
+rowWordsOf row = row .lits .positive ∷ row .lits .negative ∷ row .weight ∷ []
+
+-- a row of these literals and this weight, and a row with another weight
+abbrev pub newRow : Lits → ℕ → Row
+newRow l w = record { lits = l; weight = w }
+
+abbrev pub withWeight : Row → ℕ → Row
+withWeight row w = record { lits = row .lits; weight = w }
 
 -- row i of a table; rows are numbered from 0
 unfoldable pub rowOf : List ℕ → ℕ → Row

@@ -13,7 +13,7 @@ use Rattle.rules.specs.declared.Judged.the-variants.{Fine}
 use Rattle.rules.specs.Refusals.{refuse, unlessRefused}
 use Rattle.rules.specs.Table.{rowWords}
 use Rattle.rules.specs.Desk.{inUse, standing, conceded, decided, truths, loaded, entryWords, rowPlace, entryPlace, wellFormed, weightFits}
-use Rattle.rules.specs.Rewrite.{fewerAdded, concedes, countFits, distinct, reweighed, mostNamed}
+use Rattle.rules.specs.Rewrite.{mostKind, fewerAdded, concedes, countFits, distinct, reweighed, mostNamed}
 
 -- The last entry and its words.
 unfoldable pub lastPlace : List ℕ → ℕ
@@ -84,7 +84,7 @@ badRewriting d =
 
 -- "kind above 4", and what is bad in a decision or in a rewriting
 unfoldable pub badLast : List ℕ → Bool
-badLast d = ltb 4 (lastKind d) || cond (eqb (lastKind d) 0) (badDecision d) (badRewriting d)
+badLast d = ltb mostKind (lastKind d) || cond (eqb (lastKind d) 0) (badDecision d) (badRewriting d)
 
 -- Taking back: 10 for the desk, 16, 10 for the entry.
 unfoldable pub takeBackWhy : List ℕ → Judged

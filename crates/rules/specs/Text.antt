@@ -33,12 +33,22 @@ space = 32
 abbrev pub minus : ℕ
 minus = 45
 
+abbrev pub equalSign : ℕ
+equalSign = 61
+
 abbrev pub digitZero : ℕ
 digitZero = 48
 
 -- "numbers are decimal, 1 to 10 digits"
 abbrev pub mostDigits : ℕ
 mostDigits = 10
+
+-- the line on which the rows begin, counted from 1, and the lines of a row
+abbrev pub firstRowLine : ℕ
+firstRowLine = 4
+
+abbrev pub rowLines : ℕ
+rowLines = 2
 
 -- the digits of n, at most k
 unfoldable pub digits : ℕ → ℕ → List ℕ

@@ -96,6 +96,17 @@ atStart d =
 unfoldable pub walkOf : (Part → ℕ) → (ℕ → Bool) → List ℕ → ℕ → Walked
 walkOf bound first d budget = walk bound first budget (undecided (variables d) (decided d)) (decisions d) (atStart d)
 
+-- the price of a node, at which it is cut: its bound; and the value that is tried first: "tried true, then false"
+abbrev pub priceOf : List ℕ → Part → ℕ
+priceOf d = bound d
+
+abbrev pub triedFirst : ℕ → Bool
+triedFirst v = true
+
+-- the walk of a search
+abbrev pub walkIn : List ℕ → ℕ → Walked
+walkIn d budget = walkOf (priceOf d) triedFirst d budget
+
 abbrev pub statusOf : Bool → Status
 statusOf true = Status.Stopped
 statusOf false = Status.Done
@@ -111,6 +122,6 @@ abbrev pub searchedAs : Judged → Found → Searched
 searchedAs Fine f = Searched.Found f
 searchedAs (Refused r) f = Searched.Refused r
 
--- the search: true before false, by the bound above
+-- the search, or the refusal
 unfoldable pub searched : List ℕ → ℕ → Searched
-searched d budget = searchedAs (deskWhy d) (foundBy (walkOf (bound d) (λ v. true) d budget))
+searched d budget = searchedAs (deskWhy d) (foundBy (walkIn d budget))

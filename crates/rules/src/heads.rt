@@ -6,8 +6,24 @@ use crate::Desk;
 use crate::Entry;
 
 impl Desk {
-    // Words in front of the rows.
+    // Words in front of the rows, and where each of them stands.
     pub const HEAD: usize = 8;
+
+    pub const VARIABLES: usize = 0;
+
+    pub const IN_USE: usize = 1;
+
+    pub const CAPACITY: usize = 2;
+
+    pub const STANDING: usize = 3;
+
+    pub const CONCEDED: usize = 4;
+
+    pub const DECIDED: usize = 5;
+
+    pub const TRUTHS: usize = 6;
+
+    pub const LOADED: usize = 7;
     // Rows that a desk may have room for.
     pub const MOST_CAPACITY: u64 = 1_024;
     // Steps that may stand.
@@ -17,14 +33,14 @@ impl Desk {
     pub fn of(words: &[u64]) -> Desk
         ensures { λ r. ⌜ r ≡ headOf (now (words .entry)) ⌝ }
     {
-        let variables = word(words, 0);
-        let in_use = word(words, 1);
-        let capacity = word(words, 2);
-        let standing = word(words, 3);
-        let conceded = word(words, 4);
-        let decided = word(words, 5);
-        let truths = word(words, 6);
-        let loaded = word(words, 7);
+        let variables = word(words, Desk::VARIABLES);
+        let in_use = word(words, Desk::IN_USE);
+        let capacity = word(words, Desk::CAPACITY);
+        let standing = word(words, Desk::STANDING);
+        let conceded = word(words, Desk::CONCEDED);
+        let decided = word(words, Desk::DECIDED);
+        let truths = word(words, Desk::TRUTHS);
+        let loaded = word(words, Desk::LOADED);
         Desk {
             variables,
             in_use,
@@ -39,10 +55,27 @@ impl Desk {
 }
 
 impl Entry {
-    // Words of an entry.
+    // Words of an entry, and where they stand: the kind; a rewriting's weight, or a decision's variable; the count of rows named;
+    // the first of them; the first new row.
     pub const WORDS: usize = 16;
+
+    pub const KIND: usize = 0;
+
+    pub const WEIGHT: usize = 1;
+
+    pub const VARIABLE: usize = 1;
+
+    pub const COUNT: usize = 2;
+
+    pub const ROWS: usize = 3;
+
+    pub const FIRST: usize = 15;
     // Words of all entries.
     pub const ALL_WORDS: usize = 4_096;
+    // The last kind of step, and how many kinds there are.
+    pub const MOST_KIND: u64 = 4;
+
+    pub const KINDS: usize = 5;
     // Rows that an entry has room to name.
     pub const NAMED: usize = 12;
     // The links of the longest chain.

@@ -46,6 +46,7 @@ pub struct Figures {
     pub steps: u64,
     pub entry_words: usize,
     pub entries_words: usize,
+    pub kind: u64,
     pub named: usize,
     pub longest: usize,
     pub digits: usize,

@@ -1,6 +1,6 @@
 // A row: what it adds to a reading's weight, and what may be wrong with it.
 ghost use mathlib.Core.Path.{_≡_};
-ghost use Rattle.rules.specs.Table.{holds, givenUp, badLits, badWeight, rowWhy};
+ghost use Rattle.rules.specs.Table.{newRow, withWeight, holds, givenUp, badLits, badWeight, rowWhy};
 use crate::Judged;
 use crate::Refusal;
 use crate::Row;
@@ -14,11 +14,19 @@ impl Row {
     // The limit of a weight, and of the weights' sum.
     pub const MOST_WEIGHT: u64 = 1_000_000_000;
 
-    pub fn new(positive: u64, negative: u64, weight: u64) -> Row
-        ensures { λ r. ⌜ r ≡ record { lits = record { positive = positive; negative = negative }; weight = weight } ⌝ }
+    pub fn new(lits: Lits, weight: u64) -> Row
+        ensures { λ r. ⌜ r ≡ newRow lits weight ⌝ }
     {
-        let lits = Lits { positive, negative };
         Row { lits, weight }
+    }
+
+    // The row with another weight.
+    pub fn with_weight(self, weight: u64) -> Row
+        ensures { λ r. ⌜ r ≡ withWeight self weight ⌝ }
+    {
+        let mut row = self;
+        row.weight = weight;
+        row
     }
 
     // What the row adds to the weight of a full reading.

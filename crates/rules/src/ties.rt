@@ -34,6 +34,7 @@ pub fn all_figures() -> Figures
         steps: Desk::MOST_STEPS,
         entry_words: Entry::WORDS,
         entries_words: Entry::ALL_WORDS,
+        kind: Entry::MOST_KIND,
         named: Entry::NAMED,
         longest: Entry::LONGEST,
         digits: Parsed::DIGITS,

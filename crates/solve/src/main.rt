@@ -1,10 +1,10 @@
-// Standard input to its end, then the program's answer on standard output. No contract can say what is read or written, so all that
-// can be stated is stated of `reply`.
+// The program's answer to standard input, on standard output. It is written as soon as it is certain; then what is left of the input is
+// read to its end. No contract can say what is read or written, so all that can be stated is stated of `reply`.
 ghost use Prim.Native.Nat.{_+_, _≤_};
 ghost use mathlib.Core.Path.{_≡_};
 ghost use lib.ListN.{length};
 ghost use Rattle.rules.specs.Program.{mostInput};
-ghost use Rattle.answer.proofs.Lengths.{mostAnswer};
+ghost use Rattle.answer_lines.specs.Lengths.{mostAnswer};
 ghost use Rattle.solve.specs.Replies.{Replies};
 use libc::STDIN_FILENO;
 use libc::STDOUT_FILENO;
@@ -54,8 +54,8 @@ fn reply(input: &[u8], output: &mut [u8]) -> usize
 fn main() {
     let mut input = kept();
     let n = io::read_full(STDIN_FILENO, &mut input);
-    drop_rest(n);
     let mut output = [0u8; ROOM];
     let m = reply(&input[..n], &mut output);
     io::write_all(STDOUT_FILENO, &output[..m]);
+    drop_rest(n);
 }

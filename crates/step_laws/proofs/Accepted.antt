@@ -18,19 +18,23 @@ use Rattle.masks.proofs.Sums.{sum-ext, smallest-le, every-true}
 use Rattle.literals.specs.declared.Lits.{Lits}
 use Rattle.rules.specs.declared.Judged.the-variants.{Fine}
 use Rattle.rules.specs.Table.{mostWeight}
-use Rattle.rules.specs.Desk.{headWords, variables, inUse, capacity, standing, conceded, decided, truths, loaded, entryWords, rowPlace, entryPlace, deskWords, rowOn, weightOn, weightFits, decisions, remnant}
+use Rattle.rules.specs.Desk.{headWords, variables, inUse, capacity, standing, conceded, decided, truths, loaded, entryWords, rowPlace, entryPlace}
+use Rattle.rules.specs.Desk.{deskWords, rowOn, weightOn, weightFits, decisions, remnant}
 use Rattle.rules.specs.Rewrite.{mostNamed, most, fewerAdded, countFits, distinct, remnantOf, apartFrom, given, stored, empties, lightest, reweighed}
-use Rattle.rules.specs.TakeBack.{lastKind, lastCount, lastNamed, lastFirst, mergedEmpty, lastConceded, undoRewriting, takeBackStep, badRewriting, badLast, takeBackWhy}
+use Rattle.rules.specs.TakeBack.{lastKind, lastCount, lastNamed, lastFirst, mergedEmpty, lastConceded, undoRewriting, takeBackStep, badRewriting}
+use Rattle.rules.specs.TakeBack.{badLast, takeBackWhy}
 use Rattle.step_laws.specs.Clean.{Clean}
-use Rattle.step_laws.proofs.Formed.{Sound, Formed, well, rows-inside}
-use Rattle.step_laws.proofs.Stores.{Distinct, laid-before, laid-at, reweighed-out, reweighed-lits, length-reweighed}
-use Rattle.step_laws.proofs.Verdicts.{Rewritten}
+use Rattle.desk_laws.proofs.Formed.{Sound, Formed, well, rows-inside}
+use Rattle.desk_laws.proofs.Stores.{Distinct, laid-before, laid-at, reweighed-out, reweighed-lits, length-reweighed}
+use Rattle.desk_laws.proofs.Verdicts.{Rewritten}
 use Rattle.step_laws.proofs.Entries.{entry-past, entry-next}
-use Rattle.step_laws.proofs.Weights.{missed, measured, weight-measured}
-use Rattle.step_laws.proofs.Rewritings.{rowsAfter, rewritten, Plan, rows-out, length-rewritten, rewritten-out, rewritten-head, rewritten-use, rewritten-conceded, rewritten-capacity, rewritten-standing, rewritten-row, last-kind, last-weight, last-count, last-named, last-first}
+use Rattle.desk_laws.proofs.Weights.{missed, measured, weight-measured}
+use Rattle.step_laws.proofs.Rewritings.{rowsAfter, rewritten, Plan, rows-out, length-rewritten, rewritten-out, rewritten-head, rewritten-use}
+use Rattle.step_laws.proofs.Rewritings.{rewritten-conceded, rewritten-capacity, rewritten-standing, rewritten-row, last-kind, last-weight}
+use Rattle.step_laws.proofs.Rewritings.{last-count, last-named, last-first}
 use Rattle.step_laws.proofs.Undone.{rewriting-undone}
 use Rattle.step_laws.proofs.Balance.{total, balance}
-use Rattle.step_laws.proofs.Readings.{holds-remnant}
+use Rattle.desk_laws.proofs.Readings.{holds-remnant}
 use Rattle.step_laws.proofs.Sounds.{apart-sound, each-at, stored-each, stored-count, total-stored}
 use Rattle.step_laws.proofs.ByKind.{Yields, yields, by-kind, counted}
 
@@ -101,7 +105,13 @@ module _ (d : List ℕ) (kind : ℕ) (named : List ℕ) (ok : Rewritten d kind n
   merged-empty : mergedEmpty after ≡ (eqb kind 1 && eqb (length new) 0)
   unfolding mergedEmpty
   merged-empty =
-      rw (last-kind d kind w named new owed plan, rewritten-use d kind w named new owed plan, last-first d kind w named new owed plan, no-more (inUse d) (length new))
+      rw (
+        last-kind d kind w named new owed plan,
+        rewritten-use d kind w named new owed plan,
+        last-first d kind w named new owed plan,
+        no-more
+            (inUse d) (length new),
+      )
 
   owes : lastConceded after ≡ owed
   unfolding lastConceded given
@@ -122,10 +132,12 @@ module _ (d : List ℕ) (kind : ℕ) (named : List ℕ) (ok : Rewritten d kind n
   weights-kept reading agrees =
       let m = missed reading in
       let rows-as : sum (length named) (λ i. m (rowOn d (getD named i 0) .lits)) ≡ sum (length named) (λ i. m (remnantOf d named i)) =
-      sum-ext (length named) (λ i l. ap (λ (b : Bool). cond b 0 1) (sym (holds-remnant d reading (rowOn d (getD named i 0) .lits) agrees (ok .unsatisfied i l)))) in
+      sum-ext (length named) (λ i l. ap (λ (b : Bool). cond b 0 1)
+      (sym (holds-remnant d reading (rowOn d (getD named i 0) .lits) agrees (ok .unsatisfied i l)))) in
       let same : sum (length named) (λ i. m (rowOn d (getD named i 0) .lits)) ≡ empties rows + total m new =
       rows-as ∙ debts .balanced reading ∙ total-stored reading rows in
-      let scaled : w * sum (length named) (λ i. m (rowOn d (getD named i 0) .lits)) ≡ w * empties rows + w * total m new = ap (λ (x : ℕ). w * x) same ∙ mul-add w (empties rows) (total m new) in
+      let scaled : w * sum (length named) (λ i. m (rowOn d (getD named i 0) .lits)) ≡ w * empties rows + w * total m new =
+      ap (λ (x : ℕ). w * x) same ∙ mul-add w (empties rows) (total m new) in
       omega (arith, balance m d kind w named new owed plan)
 
   pub weight-no-more : weightOn after ≤ weightOn d
@@ -133,7 +145,14 @@ module _ (d : List ℕ) (kind : ℕ) (named : List ℕ) (ok : Rewritten d kind n
   weight-no-more =
       let few : w * (length new + empties rows) ≤ w * length named = mul-le-mul-left w (rw (stored-count rows) (debts .fewer)) in
       rw (weight-measured after, weight-measured d)
-      (omega (arith, balance (λ l. 1) d kind w named new owed plan, mul-add w (length new) (empties rows), ap (λ (x : ℕ). w * x) (sum-ones (length named)), ap (λ (x : ℕ). w * x) (total-ones new)))
+      (omega (
+        arith,
+        balance (λ l. 1) d kind w named new owed plan,
+        mul-add w (length new) (empties rows),
+        ap (λ (x : ℕ). w * x)
+            (sum-ones (length named)),
+        ap (λ (x : ℕ). w * x) (total-ones new),
+      ))
 
   -- ---- well formed and clean
 
@@ -144,14 +163,18 @@ module _ (d : List ℕ) (kind : ℕ) (named : List ℕ) (ok : Rewritten d kind n
   unfolding rowsAfter given
   row-sound i h =
       let f : List ℕ = reweighed (λ x. x - w) (λ j. getD named j 0) d (length named) in
-      let inside : rowPlace (inUse d + length new) ≤ length f = rw (length-reweighed (λ x. x - w) (λ j. getD named j 0) d (length named)) (rows-inside (ok .desk) (inUse d + length new) (ok .space)) in
+      let inside : rowPlace (inUse d + length new) ≤ length f =
+      rw (length-reweighed (λ x. x - w) (λ j. getD named j 0) d (length named)) (rows-inside (ok .desk) (inUse d + length new) (ok .space)) in
+      let lent : (j : ℕ) → j < length named → rowPlace (suc (getD named j 0)) ≤ length d =
+      λ j l. rows-inside (ok .desk) (suc (getD named j 0)) (omega (arith, ok .used j l, ok .desk .fitting)) in
       rw (rewritten-row d kind w named new owed plan i (omega (arith, ok .space)))
       (⊎-elim
-      (λ l. rw (laid-before f (inUse d) w new i l, reweighed-lits (λ x. x - w) (λ j. getD named j 0) d (length named) i) (ok .desk .sound i l))
+      (λ l. rw (laid-before f (inUse d) w new i l, reweighed-lits (λ x. x - w) (λ j. getD named j 0) d (length named) lent i) (ok .desk .sound i l))
       (λ l.
       let e : inUse d + (i - inUse d) ≡ i = omega arith in
       let place : i - inUse d < length new = omega arith in
-      rw (← e, laid-at f (inUse d) w new inside (i - inUse d) place) (each-at (Sound (variables d)) new (stored-each (Sound (variables d)) rows (debts .sound)) (i - inUse d) place))
+      rw (← e, laid-at f (inUse d) w new inside (i - inUse d) place)
+      (each-at (Sound (variables d)) new (stored-each (Sound (variables d)) rows (debts .sound)) (i - inUse d) place))
       (lt-or-le i (inUse d)))
 
   pub rewritten-formed : Formed after
@@ -184,7 +207,8 @@ module _ (d : List ℕ) (kind : ℕ) (named : List ℕ) (ok : Rewritten d kind n
         rows = λ p a b.
             let here : rowPlace (inUse d + length new) ≤ p = rw (rewritten-use d kind w named new owed plan) at a in
             let there : p < rowPlace (capacity d) = rw (rewritten-capacity d kind w named new owed plan) at b in
-            out p (λ q. omega arith) (λ q. omega arith) (λ q. omega arith) (inl (omega (arith, entry-past d (standing d)))) here ∙ clean .rows p (omega arith) there;
+            out p (λ q. omega arith) (λ q. omega arith) (λ q. omega arith) (inl (omega (arith, entry-past d (standing d)))) here
+            ∙ clean .rows p (omega arith) there;
         entries = λ p a b.
             let here : entryPlace d (standing d) + entryWords ≤ p = next p a in
             let there : p < deskWords (capacity d) = rw (rewritten-capacity d kind w named new owed plan) at b in
@@ -199,14 +223,20 @@ module _ (d : List ℕ) (kind : ℕ) (named : List ℕ) (ok : Rewritten d kind n
           → rowPlace (inUse d + length new) ≤ p → getD after p 0 ≡ getD d p 0
       out p a b c h k =
           rewritten-out d kind w named new owed plan p a b c h ∙ rows-out d w named new p (inr k)
-          ∙ reweighed-out (λ x. x - w) (λ i. getD named i 0) d (length named) p (λ i l e. omega (arith, ok .used i l))
+          ∙ reweighed-out (λ x. x - w) (λ i. getD named i 0) d (length named) p (λ i l. inr (omega (arith, ok .used i l)))
 
   -- ---- taking it back is accepted
 
   adds-as : (eqb (inUse after + fewerAdded (lastKind after)) (lastFirst after + lastCount after) || mergedEmpty after) ≡ true
   unfolding given
   adds-as =
-      rw (merged-empty, last-kind d kind w named new owed plan, last-first d kind w named new owed plan, last-count d kind w named new owed plan, rewritten-use d kind w named new owed plan)
+      rw (
+        merged-empty,
+        last-kind d kind w named new owed plan,
+        last-first d kind w named new owed plan,
+        last-count d kind w named new owed plan,
+        rewritten-use d kind w named new owed plan,
+      )
       (⊎-elim
       (λ q. rw (eq-eqb (inUse d + length new + fewerAdded kind) (inUse d + length named) (omega arith)))
       (λ q. rw (eq-eqb kind 1 (q .0), eq-eqb (length new) 0 (q .1)) (or-true (eqb (inUse d + length new + fewerAdded kind) (inUse d + length named))))
@@ -223,7 +253,8 @@ module _ (d : List ℕ) (kind : ℕ) (named : List ℕ) (ok : Rewritten d kind n
       rw n (apart-distinct (length named) (lastNamed after)
       (λ i j a b e. ok .apart i j a b (sym (last-named d kind w named new owed plan i (omega arith)) ∙ e ∙ last-named d kind w named new owed plan j b))) in
       let before : every (lastCount after) (λ i. ltb (lastNamed after i) (lastFirst after)) ≡ true =
-      rw n (every-true (length named) (λ i l. lt-ltb (lastNamed after i) (lastFirst after) (rw (first, last-named d kind w named new owed plan i l) (ok .used i l)))) in
+      rw n (every-true (length named)
+      (λ i l. lt-ltb (lastNamed after i) (lastFirst after) (rw (first, last-named d kind w named new owed plan i l) (ok .used i l)))) in
       let loads : ltb (lastFirst after) (loaded after) ≡ false =
       rw (first, head-same 7 (omega arith)) (le-ltb (inUse d) (loaded d) (ok .desk .kept)) in
       let repaid : ltb (conceded after) (lastConceded after) ≡ false =

@@ -23,13 +23,16 @@ use Rattle.masks.proofs.Sums.{sum-empty, sum-suc}
 use Rattle.literals.specs.declared.Lits.{Lits}
 use Rattle.literals.specs.Lits.{noLits, negatedLits, together, variablesOf, isEmpty, sameLits}
 use Rattle.literals.proofs.TwoMasks.{same-eq, variables-negated}
-use Rattle.rules.specs.Rewrite.{fewest, most, fewerAdded, concedes, countFits, shows, lit, links, compensating, clash as meet, apartFrom, forked, merges, shifts, chains, forks, fits, gives, stored, empties}
-use Rattle.step_laws.proofs.Formed.{Sound}
-use Rattle.step_laws.proofs.Weights.{missed}
+use Rattle.rules.specs.Rewrite.{fewest, most, fewerAdded, concedes, countFits, shows, lit, links, compensating, clash as meet, apartFrom, forked}
+use Rattle.rules.specs.Rewrite.{merges, shifts, chains, forks, fits, gives, stored, empties}
+use Rattle.desk_laws.proofs.Formed.{Sound}
+use Rattle.desk_laws.proofs.Weights.{missed}
 use Rattle.step_laws.proofs.Balance.{total}
-use Rattle.step_laws.proofs.Readings.{one-alone}
-use Rattle.step_laws.proofs.Sounds.{sound-held, none-sound, negated-sound, less-sound, apart-sound, together-sound, one-some, together-some, shows-facts, Each, each-append, empties-append, stored-count}
-use Rattle.step_laws.proofs.Linked.{lit-sound, links-before, links-one, links-alone, links-apart, telescoped, compensating-sound, compensating-full, compensating-count}
+use Rattle.desk_laws.proofs.Readings.{one-alone}
+use Rattle.step_laws.proofs.Sounds.{sound-held, none-sound, negated-sound, less-sound, apart-sound, together-sound, one-some, together-some}
+use Rattle.step_laws.proofs.Sounds.{shows-facts, Each, each-append, empties-append, stored-count}
+use Rattle.step_laws.proofs.Linked.{lit-sound, links-before, links-one, links-alone, links-apart, telescoped, compensating-sound}
+use Rattle.step_laws.proofs.Linked.{compensating-full, compensating-count}
 use Rattle.step_laws.proofs.Merged.{meet-held, merged}
 use Rattle.step_laws.proofs.Closing.{apart-together, chain-closes, fork-closes}
 
@@ -60,8 +63,11 @@ by-kind P a b c d (suc (suc (suc (suc (suc k))))) l h = absurd (omega arith)
 -- the counts of rows named
 pub counted : (kind named : ℕ) → countFits kind named ≡ true → (fewest kind ≤ named) × (named ≤ most kind)
 unfolding countFits
-counted kind named e =
-    (leb-true (fewest kind) named (and-left (leb (fewest kind) named) (leb named (most kind)) e), leb-true named (most kind) (and-right (leb (fewest kind) named) (leb named (most kind)) e))
+counted kind named e = (
+  leb-true (fewest kind) named (and-left (leb (fewest kind) named) (leb named (most kind)) e),
+  leb-true named (most kind)
+      (and-right (leb (fewest kind) named) (leb named (most kind)) e),
+)
 
 module _ (n : ℕ) (few : n ≤ 64) (f : ℕ → Lits) where
   -- ---- shift
@@ -92,7 +98,8 @@ module _ (n : ℕ) (few : n ≤ 64) (f : ℕ → Lits) where
   chain-yields k s e =
       let before : (i : ℕ) → i < suc k → Sound n (f i) = λ i l. s i (le-step l) in
       let linked = and-left (links f k) (sameLits (f (k + 1)) (negatedLits (lit f k))) e in
-      let end : f (k + 1) ≡ negatedLits (lit f k) = same-eq (f (k + 1)) (negatedLits (lit f k)) (and-right (links f k) (sameLits (f (k + 1)) (negatedLits (lit f k))) e) in
+      let end : f (k + 1) ≡ negatedLits (lit f k) =
+      same-eq (f (k + 1)) (negatedLits (lit f k)) (and-right (links f k) (sameLits (f (k + 1)) (negatedLits (lit f k))) e) in
       let none-first : empties (noLits ∷ compensating f k) ≡ 1 = first-empty (compensating f k) (compensating-full n few f k linked) in
       let long : length (noLits ∷ compensating f k) ≡ suc k = ap suc (compensating-count n few f k) in
       let kept = stored-count (noLits ∷ compensating f k) in
@@ -101,7 +108,8 @@ module _ (n : ℕ) (few : n ≤ 64) (f : ℕ → Lits) where
         fewer = rw (chain-gives k) (omega arith);
         adds = inl (rw (chain-gives k) (omega arith));
         owed = rw (chain-gives k) none-first;
-        balanced = λ reading. rw (chain-gives k) (chain-closes f k reading (telescoped n few f reading k before linked) (links-alone n few f k before linked) end);
+        balanced =
+            λ reading. rw (chain-gives k) (chain-closes f k reading (telescoped n few f reading k before linked) (links-alone n few f k before linked) end);
       }
 
   -- ---- fork
@@ -153,8 +161,10 @@ module _ (n : ℕ) (few : n ≤ 64) (f : ℕ → Lits) where
       record {
         sound = rw (fork-gives k) (
           none-sound n,
-          each-append (Sound n) (compensating f k) (r1 ∷ r2 ∷ []) (compensating-sound n few f k before linked)
-              (together-sound sa (negated-sound sbc) (rw (variables-negated (together b c)) a-bc), (together-sound (negated-sound sa) sbc (rw (variables-negated a) a-bc), tt)),
+          each-append (Sound n) (compensating f k) (r1 ∷ r2 ∷ []) (compensating-sound n few f k before linked) (
+            together-sound sa (negated-sound sbc) (rw (variables-negated (together b c)) a-bc),
+            (together-sound (negated-sound sa) sbc (rw (variables-negated a) a-bc), tt),
+          ),
         );
         fewer = rw (fork-gives k) (omega arith);
         adds = inl (rw (fork-gives k) (omega arith));
@@ -162,7 +172,8 @@ module _ (n : ℕ) (few : n ≤ 64) (f : ℕ → Lits) where
         balanced = λ reading.
             rw (fork-gives k)
             (fork-closes f k reading a b c (telescoped n few f reading k before linked)
-            (one-alone a (sound-held few sa) one-a) (one-alone b (sound-held few sb) (s1 .second)) (one-alone c (sound-held few sc) (s2 .second)) (s1 .whole) (s2 .whole) (s3 .whole));
+            (one-alone a (sound-held few sa) one-a) (one-alone b (sound-held few sb) (s1 .second)) (one-alone c (sound-held few sc) (s2 .second))
+            (s1 .whole) (s2 .whole) (s3 .whole));
       }
     where
       branch : (k i : ℕ) → Sound n (f (k + i)) → Sound n (forked f k i)
@@ -180,7 +191,8 @@ module _ (n : ℕ) (few : n ≤ 64) (f : ℕ → Lits) where
       let t : ℕ = trailingZeros 64 v in
       let is : v ≡ 2 ^ t = count-one (meet-held (f 1) (sound-held few (s 0 (omega arith)))) one in
       let there : has v t ≡ true = ap (λ (m : ℕ). has m t) is ∙ has-pow-same t in
-      let alike : apartFrom (2 ^ t) (f 0) ≡ apartFrom (2 ^ t) (f 1) = ap (λ (m : ℕ). apartFrom m (f 0)) (sym is) ∙ same ∙ ap (λ (m : ℕ). apartFrom m (f 1)) is in
+      let alike : apartFrom (2 ^ t) (f 0) ≡ apartFrom (2 ^ t) (f 1) =
+      ap (λ (m : ℕ). apartFrom m (f 0)) (sym is) ∙ same ∙ ap (λ (m : ℕ). apartFrom m (f 1)) is in
       record {
         sound = (apart-sound v (s 0 (omega arith)), tt);
         fewer = omega arith;
@@ -188,12 +200,20 @@ module _ (n : ℕ) (few : n ≤ 64) (f : ℕ → Lits) where
         owed = ⊎-elim (λ q. rw q) (λ q. rw q) (cases (isEmpty rest));
         balanced = λ reading.
             let m : ℕ → ℕ = λ i. missed reading (f i) in
-            omega (arith, sum-suc 1 m, sum-suc 0 m, sum-empty m, merged (s 0 (omega arith)) (s 1 (omega arith)) t reading there alike, ap (λ (x : ℕ). missed reading (apartFrom x (f 0))) is);
+            omega (
+              arith,
+              sum-suc 1 m,
+              sum-suc 0 m,
+              sum-empty m,
+              merged (s 0 (omega arith)) (s 1 (omega arith)) t reading there alike,
+              ap (λ (x : ℕ). missed reading (apartFrom x (f 0))) is,
+            );
       }
 
   -- ---- every kind
 
-  pub yields : (kind named : ℕ) → 1 ≤ kind → kind ≤ 4 → countFits kind named ≡ true → ((i : ℕ) → i < named → Sound n (f i)) → fits kind named f ≡ true → Yields n kind named f
+  pub yields : (kind named : ℕ) → 1 ≤ kind → kind ≤ 4 → countFits kind named ≡ true → ((i : ℕ) → i < named → Sound n (f i)) → fits kind named f ≡ true
+      → Yields n kind named f
   unfolding fits fewest most
   yields kind named l h =
       by-kind (λ j. countFits j named ≡ true → ((i : ℕ) → i < named → Sound n (f i)) → fits j named f ≡ true → Yields n j named f)

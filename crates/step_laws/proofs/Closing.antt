@@ -17,12 +17,14 @@ use Rattle.literals.specs.Lits.{noLits, negatedLits, together, variablesOf}
 use Rattle.literals.proofs.TwoMasks.{negated-together}
 use Rattle.rules.specs.Table.{holds}
 use Rattle.rules.specs.Rewrite.{lit, compensating}
-use Rattle.step_laws.proofs.Weights.{missed}
+use Rattle.desk_laws.proofs.Weights.{missed}
 use Rattle.step_laws.proofs.Balance.{total}
-use Rattle.step_laws.proofs.Readings.{Alone, holds-none, holds-together, holds-negated}
+use Rattle.desk_laws.proofs.Readings.{Alone, holds-none, holds-together, holds-negated}
 use Rattle.step_laws.proofs.Sounds.{total-append}
 
-eight : (x y z : Bool) → cond x 0 1 + cond (not x || y) 0 1 + cond (not x || z) 0 1 + cond (not y || not z) 0 1 ≡ 1 + cond (x || (not y || not z)) 0 1 + cond (not x || (y || z)) 0 1
+eight : (x y z : Bool)
+    → cond x 0 1 + cond (not x || y) 0 1 + cond (not x || z) 0 1 + cond (not y || not z) 0 1 ≡ 1 + cond (x || (not y || not z)) 0 1 + cond
+    (not x || (y || z)) 0 1
 eight true true true = refl
 eight true true false = refl
 eight true false true = refl
@@ -64,7 +66,8 @@ module _ (f : ℕ → Lits) (k reading : ℕ) where
   abbrev all : ℕ → ℕ
   all i = missed reading (f i)
 
-  pub chain-closes : sum (suc k) all ≡ total (missed reading) (compensating f k) + missed reading (lit f k) → Alone (lit f k) → f (k + 1) ≡ negatedLits (lit f k)
+  pub chain-closes : sum (suc k) all ≡ total (missed reading) (compensating f k) + missed reading (lit f k) → Alone (lit f k)
+      → f (k + 1) ≡ negatedLits (lit f k)
       → sum (suc (suc k)) all ≡ total (missed reading) (noLits ∷ compensating f k)
   unfolding total
   chain-closes t alone end =
@@ -73,7 +76,8 @@ module _ (f : ℕ → Lits) (k reading : ℕ) where
 
   module _ (a b c : Lits) where
     fork-missed : Alone a → Alone b → Alone c
-        → missed reading a + missed reading (together (negatedLits a) b) + missed reading (together (negatedLits a) c) + missed reading (together (negatedLits b) (negatedLits c))
+        → missed reading a + missed reading (together (negatedLits a) b) + missed reading (together (negatedLits a) c) + missed reading
+        (together (negatedLits b) (negatedLits c))
         ≡ 1 + missed reading (together a (negatedLits (together b c))) + missed reading (together (negatedLits a) (together b c))
     unfolding missed
     fork-missed p q r =
@@ -94,7 +98,8 @@ module _ (f : ℕ → Lits) (k reading : ℕ) where
 
     pub fork-closes : sum (suc k) all ≡ total (missed reading) (compensating f k) + missed reading a → Alone a → Alone b → Alone c
         → f (k + 1) ≡ together (negatedLits a) b → f (k + 2) ≡ together (negatedLits a) c → f (k + 3) ≡ together (negatedLits b) (negatedLits c)
-        → sum (k + 4) all ≡ total (missed reading) (noLits ∷ (compensating f k ++ (together a (negatedLits (together b c)) ∷ together (negatedLits a) (together b c) ∷ [])))
+        → sum (k + 4) all ≡ total (missed reading)
+        (noLits ∷ (compensating f k ++ (together a (negatedLits (together b c)) ∷ together (negatedLits a) (together b c) ∷ [])))
     unfolding total
     fork-closes t p q r e1 e2 e3 =
         let n4 : k + 4 ≡ suc (suc (suc (suc k))) = omega arith in
@@ -102,4 +107,14 @@ module _ (f : ℕ → Lits) (k reading : ℕ) where
         let g2 : f (suc (suc k)) ≡ together (negatedLits a) c = rw add-two at e2 in
         let g3 : f (suc (suc (suc k))) ≡ together (negatedLits b) (negatedLits c) = rw add-three at e3 in
         rw (n4, total-append (missed reading) (compensating f k) (together a (negatedLits (together b c)) ∷ together (negatedLits a) (together b c) ∷ []))
-        (omega (arith, sum-suc (suc k) all, sum-suc (suc (suc k)) all, sum-suc (suc (suc (suc k))) all, ap (missed reading) g1, ap (missed reading) g2, ap (missed reading) g3, fork-missed p q r, missed-none reading))
+        (omega (
+          arith,
+          sum-suc (suc k) all,
+          sum-suc (suc (suc k)) all,
+          sum-suc (suc (suc (suc k))) all,
+          ap (missed reading) g1,
+          ap (missed reading) g2,
+          ap (missed reading) g3,
+          fork-missed p q r,
+          missed-none reading,
+        ))

@@ -24,12 +24,14 @@ use Rattle.rules.specs.Desk.{headWords, variables, inUse, capacity, standing, d
 use Rattle.rules.specs.Decide.{decideStep}
 use Rattle.rules.specs.TakeBack.{lastVariable, undoDecision, takeBackStep, badDecision, badLast, takeBackWhy}
 use Rattle.step_laws.specs.Clean.{Clean}
-use Rattle.step_laws.proofs.Formed.{Formed, well, head-inside}
-use Rattle.step_laws.proofs.Weights.{measured, measured-same, weight-measured}
-use Rattle.step_laws.proofs.Verdicts.{Decided}
+use Rattle.desk_laws.proofs.Formed.{Formed, well, head-inside}
+use Rattle.desk_laws.proofs.Weights.{measured, measured-same, weight-measured}
+use Rattle.desk_laws.proofs.Verdicts.{Decided}
 use Rattle.step_laws.proofs.Entries.{entry-past, entry-next, row-past-head, withdrawn-back}
 use Rattle.step_laws.proofs.Undoing.{unset, unset-out, length-unset, unset-decided, unset-truths}
-use Rattle.step_laws.proofs.Decisions.{length-decided, decided-out, decided-head, decided-row, decided-standing, decided-decided, decided-truths, decided-capacity, decided-kind, decided-variable, v, decided-bit, not-yet-true, decided-single}
+use Rattle.step_laws.proofs.Decisions.{length-decided, decided-out, decided-head, decided-row, decided-standing, decided-decided}
+use Rattle.step_laws.proofs.Decisions.{decided-truths, decided-capacity, decided-kind, decided-variable, v, decided-bit, not-yet-true}
+use Rattle.step_laws.proofs.Decisions.{decided-single}
 
 module _ (d : List ℕ) (l : ℤ) (ok : Decided d l) where
   -- ---- taken back
@@ -53,12 +55,14 @@ module _ (d : List ℕ) (l : ℤ) (ok : Decided d l) where
   cleared-truths =
       unset-truths (decideStep d l) (single (lastVariable (decideStep d l) - 1)) inside
       ∙ rw (bit-out, decided-truths d l (head-inside (ok .desk)), decided-bit d l ok)
-      (⊎-elim (λ t. rw t (put-take (truths d) (v d l ok) (not-yet-true d l ok))) (λ t. rw t (take-out (truths d) (v d l ok) (not-yet-true d l ok))) (cases (isPositive l)))
+      (⊎-elim (λ t. rw t (put-take (truths d) (v d l ok) (not-yet-true d l ok))) (λ t. rw t (take-out (truths d) (v d l ok) (not-yet-true d l ok)))
+      (cases (isPositive l)))
 
   pub decision-undone : Clean d → takeBackStep (decideStep d l) ≡ d
   unfolding takeBackStep undoDecision
   decision-undone clean =
-      let out : (p : ℕ) → (p ≡ 5 → ⊥) → (p ≡ 6 → ⊥) → getD cleared p 0 ≡ getD (decideStep d l) p 0 = unset-out (decideStep d l) (single (lastVariable (decideStep d l) - 1)) in
+      let out : (p : ℕ) → (p ≡ 5 → ⊥) → (p ≡ 6 → ⊥) → getD cleared p 0 ≡ getD (decideStep d l) p 0 =
+      unset-out (decideStep d l) (single (lastVariable (decideStep d l) - 1)) in
       rw (decided-kind d l ok)
       (withdrawn-back d cleared (ok .desk) clean (ok .room)
       (length-unset (decideStep d l) (single (lastVariable (decideStep d l) - 1)) ∙ length-decided d l)
@@ -104,7 +108,9 @@ module _ (d : List ℕ) (l : ℤ) (ok : Decided d l) where
             rw (same-variables, decided-row d l i (omega (arith, f .fitting))) (f .sound i here);
         light = rw (weight-measured (decideStep d l), decided-measured (λ k. 1), ← weight-measured d) (f .light);
         nested = rw (decided-truths d l (head-inside (ok .desk)), decided-decided d l (head-inside (ok .desk))) nests;
-        within = rw (same-variables, decided-decided d l (head-inside (ok .desk)), (decided-bit d l ok)) (put-lt (variables d) (f .within) (omega (arith, ok .counted, literal-sized l (ok .literal) .some)));
+        within =
+            rw (same-variables, decided-decided d l (head-inside (ok .desk)), (decided-bit d l ok))
+            (put-lt (variables d) (f .within) (omega (arith, ok .counted, literal-sized l (ok .literal) .some)));
       }
     where
       nests : without (cond (isPositive l) (bitOr (truths d) (bitOf l)) (truths d)) (bitOr (decided d) (bitOf l)) ≡ 0
@@ -117,7 +123,8 @@ module _ (d : List ℕ) (l : ℤ) (ok : Decided d l) where
           (λ t. rw t sub)
           (cases (isPositive l))
         where
-          either : (x : ℕ) → has (bitOr (truths d) (bitOf l)) x ≡ true → (has (truths d) x ≡ true → has (bitOr (decided d) (bitOf l)) x ≡ true) → has (bitOr (decided d) (bitOf l)) x ≡ true
+          either : (x : ℕ) → has (bitOr (truths d) (bitOf l)) x ≡ true → (has (truths d) x ≡ true → has (bitOr (decided d) (bitOf l)) x ≡ true)
+              → has (bitOr (decided d) (bitOf l)) x ≡ true
           either x h k =
               ⊎-elim k (λ t. has-or (decided d) (bitOf l) x ∙ rw t (or-true (has (decided d) x)))
               (or-cases (has (truths d) x) (has (bitOf l) x) (sym (has-or (truths d) (bitOf l) x) ∙ h))
@@ -129,11 +136,13 @@ module _ (d : List ℕ) (l : ℤ) (ok : Decided d l) where
         rows = λ p a b.
             let here : rowPlace (inUse d) ≤ p = rw same-use at a in
             let there : p < rowPlace (capacity d) = rw (decided-capacity d l ok) at b in
-            decided-out d l p (λ q. omega arith) (λ q. omega arith) (λ q. omega arith) (inl (omega (arith, entry-past d (standing d)))) ∙ clean .rows p here there;
+            decided-out d l p (λ q. omega arith) (λ q. omega arith) (λ q. omega arith) (inl (omega (arith, entry-past d (standing d))))
+            ∙ clean .rows p here there;
         entries = λ p a b.
             let here : entryPlace d (standing d) + entryWords ≤ p = next p a in
             let there : p < deskWords (capacity d) = rw (decided-capacity d l ok) at b in
-            decided-out d l p (λ q. far p here (omega arith)) (λ q. far p here (omega arith)) (λ q. far p here (omega arith)) (inr here) ∙ clean .entries p (omega arith) there;
+            decided-out d l p (λ q. far p here (omega arith)) (λ q. far p here (omega arith)) (λ q. far p here (omega arith)) (inr here)
+            ∙ clean .entries p (omega arith) there;
       }
     where
       far : (p : ℕ) → entryPlace d (standing d) + entryWords ≤ p → p < headWords → ⊥
@@ -146,8 +155,21 @@ module _ (d : List ℕ) (l : ℤ) (ok : Decided d l) where
   pub decision-fine : takeBackWhy (decideStep d l) ≡ Fine
   unfolding takeBackWhy badLast badDecision
   decision-fine =
-      rw (well decided-formed, (decided-kind d l ok), (decided-variable d l ok), decided-standing d l (head-inside (ok .desk)), decided-decided d l (head-inside (ok .desk)), (decided-bit d l ok))
-      (rw (ne-eqb (standing d + 1) 0 (λ q. omega arith), ne-eqb (size l) 0 (λ q. omega (arith, literal-sized l (ok .literal) .some)), has-put-same (decided d) (size l - 1)))
+      rw (
+        well decided-formed,
+        (decided-kind d l ok),
+        (decided-variable d l ok),
+        decided-standing d l (head-inside (ok .desk)),
+        decided-decided d l
+            (head-inside (ok .desk)),
+        (decided-bit d l ok),
+      )
+      (rw (
+        ne-eqb (standing d + 1) 0 (λ q. omega arith),
+        ne-eqb (size l) 0 (λ q. omega (arith, literal-sized l (ok .literal) .some)),
+        has-put-same
+            (decided d) (size l - 1),
+      ))
 
 -- ---- readings
 
@@ -178,7 +200,8 @@ kept-before d l ok reading e =
     at : (w : ℕ) → w ≡ size l - 1 → has (bitAnd reading (decided d)) w ≡ has (truths d) w
     at w q = rw q (has-and reading (decided d) (size l - 1) ∙ rw (ok .fresh) (and-false (has reading (size l - 1)) ∙ sym (not-yet-true d l ok)))
 
-    off : (w : ℕ) → bitAnd reading (decided (decideStep d l)) ≡ truths (decideStep d l) → (w ≡ size l - 1 → ⊥) → has (bitAnd reading (decided d)) w ≡ has (truths d) w
+    off : (w : ℕ) → bitAnd reading (decided (decideStep d l)) ≡ truths (decideStep d l) → (w ≡ size l - 1 → ⊥)
+        → has (bitAnd reading (decided d)) w ≡ has (truths d) w
     off w k n =
         let v : ℕ = size l - 1 in
         let before : has reading w && has (decided d) w ≡ has (bitAnd reading (decided (decideStep d l))) w =

@@ -19,9 +19,9 @@ use Rattle.literals.proofs.OneBit.{bit-literal, place-below}
 use Rattle.rules.specs.Desk.{headWords, capacity, standing, decided, truths, entryWords, rowPlace, entryPlace, rowOn}
 use Rattle.rules.specs.Decide.{entered, decisionEntry, decideStep}
 use Rattle.rules.specs.TakeBack.{lastPlace, lastKind, lastVariable}
-use Rattle.step_laws.proofs.Formed.{head-inside}
-use Rattle.step_laws.proofs.Stores.{row-same}
-use Rattle.step_laws.proofs.Verdicts.{Decided}
+use Rattle.desk_laws.proofs.Formed.{head-inside}
+use Rattle.desk_laws.proofs.Stores.{row-same}
+use Rattle.desk_laws.proofs.Verdicts.{Decided}
 use Rattle.step_laws.proofs.Entries.{entry-inside, entry-past, row-past-head, length-entered, entered-out, entered-standing, entered-in}
 
 -- ---- the words after a decision
@@ -74,7 +74,8 @@ module _ (d : List ℕ) (l : ℤ) (long : headWords ≤ length d) where
       getD-set-same (set e 5 m) 6 (cond (isPositive l) (bitOr (truths d) (bitOf l)) (truths d)) 0
       (rw (length-set e 5 m, length-entered d (decisionEntry l)) (omega arith))
 
-  pub decided-in : (k : ℕ) → k < entryWords → entryPlace d (standing d) + k < length d → getD (decideStep d l) (entryPlace d (standing d) + k) 0 ≡ getD (decisionEntry l) k 0
+  pub decided-in : (k : ℕ) → k < entryWords → entryPlace d (standing d) + k < length d
+      → getD (decideStep d l) (entryPlace d (standing d) + k) 0 ≡ getD (decisionEntry l) k 0
   unfolding decideStep decisionEntry
   decided-in k h fits =
       let at : ℕ = entryPlace d (standing d) in

@@ -14,8 +14,8 @@ use Rattle.rules.specs.Desk.{headWords, capacity, standing, entryWords, mostSte
 use Rattle.rules.specs.Decide.{entered}
 use Rattle.rules.specs.TakeBack.{lastPlace, withdrawn}
 use Rattle.step_laws.specs.Clean.{Clean}
-use Rattle.step_laws.proofs.Formed.{Formed, head-inside}
-use Rattle.step_laws.proofs.Stores.{row-same}
+use Rattle.desk_laws.proofs.Formed.{Formed, head-inside}
+use Rattle.desk_laws.proofs.Stores.{row-same}
 
 -- one more entry ends within the desk
 pub entry-fits : (d : List ℕ) (j : ℕ) → j < mostSteps → entryPlace d j + entryWords ≤ deskWords (capacity d)
@@ -44,7 +44,8 @@ module _ (d entry : List ℕ) where
   unfolding entered
   length-entered = simp (length-set, length-sets)
 
-  pub entered-out : (p : ℕ) → (p ≡ 3 → ⊥) → (p < entryPlace d (standing d)) ⊎ (entryPlace d (standing d) + length entry ≤ p) → getD (entered d entry) p 0 ≡ getD d p 0
+  pub entered-out : (p : ℕ) → (p ≡ 3 → ⊥) → (p < entryPlace d (standing d)) ⊎ (entryPlace d (standing d) + length entry ≤ p)
+      → getD (entered d entry) p 0 ≡ getD d p 0
   unfolding entered
   entered-out p n h =
       getD-set-other (sets d (entryPlace d (standing d)) entry) 3 p (standing d + 1) 0 n
@@ -57,7 +58,8 @@ module _ (d entry : List ℕ) where
   unfolding entered
   entered-standing h = getD-set-same (sets d (entryPlace d (standing d)) entry) 3 (standing d + 1) 0 (rw length-sets h)
 
-  pub entered-in : (k : ℕ) → k < length entry → entryPlace d (standing d) + k < length d → getD (entered d entry) (entryPlace d (standing d) + k) 0 ≡ getD entry k 0
+  pub entered-in : (k : ℕ) → k < length entry → entryPlace d (standing d) + k < length d
+      → getD (entered d entry) (entryPlace d (standing d) + k) 0 ≡ getD entry k 0
   unfolding entered
   entered-in k l h =
       let at : ℕ = entryPlace d (standing d) in
@@ -102,7 +104,8 @@ module _ (d : List ℕ) where
 pub withdrawn-back : (d e : List ℕ) → Formed d → Clean d → standing d < mostSteps → length e ≡ length d → capacity e ≡ capacity d → standing e ≡ standing d + 1
     → ((p : ℕ) → (p ≡ 3 → ⊥) → (p < entryPlace d (standing d)) ⊎ (entryPlace d (standing d) + entryWords ≤ p) → getD e p 0 ≡ getD d p 0) → withdrawn e ≡ d
 withdrawn-back d e f clean room long c s same =
-    ext-getD 0 (withdrawn e) d (length-withdrawn e ∙ long) (λ p h. ⊎-elim (at-count p) (λ n. elsewhere p n (lt-or-le p at) (lt-or-le p (at + entryWords))) (eq-or-ne p 3))
+    ext-getD 0 (withdrawn e) d (length-withdrawn e ∙ long)
+    (λ p h. ⊎-elim (at-count p) (λ n. elsewhere p n (lt-or-le p at) (lt-or-le p (at + entryWords))) (eq-or-ne p 3))
   where
     at : ℕ
     at = entryPlace d (standing d)

@@ -28,7 +28,7 @@ use Rattle.literals.proofs.TwoMasks.{Held, same-eq, lits-opposite, lits-positiv
 use Rattle.literals.proofs.OneLiteral.{one-lits}
 use Rattle.rules.specs.Rewrite.{fewest, most, countFits, shows, lit, links, clash as meet, apartFrom, forked, merges, shifts, chains, forks, fits, gives}
 use Rattle.step_laws.specs.StepTable.{Pair, Linked, Fits, merge, shift, chain, fork}
-use Rattle.step_laws.proofs.Formed.{Sound}
+use Rattle.desk_laws.proofs.Formed.{Sound}
 use Rattle.step_laws.proofs.Sounds.{sound-held, less-sound, shows-facts}
 use Rattle.step_laws.proofs.Linked.{first-lit, lit-sound, links-before, links-one}
 use Rattle.step_laws.proofs.Merged.{meet-held, split-positive, split-negative}
@@ -52,7 +52,8 @@ literal-again z h =
     let bit = bit-literal z h in
     let trail : trailingZeros 64 (bitOf z) ≡ size z - 1 = ap (trailingZeros 64) bit ∙ trailing-pow 64 (size z - 1) (place-below z h) in
     ⊎-elim
-    (λ t. rw (lits-positive z t, ne-eqb (bitOf z) 0 (λ q. omega (arith, bit, pow-pos (size z - 1))), trail) (by-sign-and-size (pos (suc (size z - 1))) z (up (size z - 1) ∙ sym t) (back z h)))
+    (λ t. rw (lits-positive z t, ne-eqb (bitOf z) 0 (λ q. omega (arith, bit, pow-pos (size z - 1))), trail)
+    (by-sign-and-size (pos (suc (size z - 1))) z (up (size z - 1) ∙ sym t) (back z h)))
     (λ t. rw (lits-negative z t, trail) (by-sign-and-size (negsuc (size z - 1)) z (down (size z - 1) ∙ sym t) (back z h)))
     (cases (isPositive z))
   where
@@ -115,11 +116,13 @@ module _ (n : ℕ) (few : n ≤ 64) (f : ℕ → Lits) where
 
   alone-up : (t : ℕ) → t < 64 → Names (record { positive = 2 ^ t; negative = 0 })
   unfolding isOne
-  alone-up t h = names _ (record { positives = pow-lt h; negatives = pow-pos 64 }) (eq-eqb (count (2 ^ t) + count 0) 1 (omega (arith, count-pow t h, count-zero)))
+  alone-up t h =
+      names _ (record { positives = pow-lt h; negatives = pow-pos 64 }) (eq-eqb (count (2 ^ t) + count 0) 1 (omega (arith, count-pow t h, count-zero)))
 
   alone-down : (t : ℕ) → t < 64 → Names (record { positive = 0; negative = 2 ^ t })
   unfolding isOne
-  alone-down t h = names _ (record { positives = pow-pos 64; negatives = pow-lt h }) (eq-eqb (count 0 + count (2 ^ t)) 1 (omega (arith, count-pow t h, count-zero)))
+  alone-down t h =
+      names _ (record { positives = pow-pos 64; negatives = pow-lt h }) (eq-eqb (count 0 + count (2 ^ t)) 1 (omega (arith, count-pow t h, count-zero)))
 
   -- the rest has no literal on the variable
   rest-own : (t : ℕ) (r one : Lits) → Names one → variablesOf one ≡ 2 ^ t → bitAnd (variablesOf (apartFrom (2 ^ t) r)) (bitOf (literalOf one)) ≡ 0
@@ -164,8 +167,10 @@ module _ (n : ℕ) (few : n ≤ 64) (f : ℕ → Lits) where
       let held : v < 2 ^ 64 = meet-held (f 1) (sound-held few (s 0 (omega arith))) in
       let is : v ≡ 2 ^ t = count-one held one in
       let some : 0 < v = rw is (pow-pos t) in
-      let alike : apartFrom (2 ^ t) (f 0) ≡ apartFrom (2 ^ t) (f 1) = ap (λ (m : ℕ). apartFrom m (f 0)) (sym is) ∙ same ∙ ap (λ (m : ℕ). apartFrom m (f 1)) is in
-      subst (λ (m : ℕ). Fits f 1 2 (apartFrom m (f 0) ∷ [])) (sym is) (merge-at s t (trailing-lt 64 held some) (ap (λ (m : ℕ). has m t) is ∙ has-pow-same t) alike)
+      let alike : apartFrom (2 ^ t) (f 0) ≡ apartFrom (2 ^ t) (f 1) =
+      ap (λ (m : ℕ). apartFrom m (f 0)) (sym is) ∙ same ∙ ap (λ (m : ℕ). apartFrom m (f 1)) is in
+      subst (λ (m : ℕ). Fits f 1 2 (apartFrom m (f 0) ∷ [])) (sym is)
+      (merge-at s t (trailing-lt 64 held some) (ap (λ (m : ℕ). has m t) is ∙ has-pow-same t) alike)
 
   -- ---- every kind
 
@@ -182,7 +187,8 @@ module _ (n : ℕ) (few : n ≤ 64) (f : ℕ → Lits) where
   chain-words k s e =
       let before : (i : ℕ) → i < suc k → Sound n (f i) = λ i h. s i (le-step h) in
       let linked = and-left (links f k) (sameLits (f (k + 1)) (negatedLits (lit f k))) e in
-      let end : f (k + 1) ≡ negatedLits (lit f k) = same-eq (f (k + 1)) (negatedLits (lit f k)) (and-right (links f k) (sameLits (f (k + 1)) (negatedLits (lit f k))) e) in
+      let end : f (k + 1) ≡ negatedLits (lit f k) =
+      same-eq (f (k + 1)) (negatedLits (lit f k)) (and-right (links f k) (sameLits (f (k + 1)) (negatedLits (lit f k))) e) in
       as-given (s 0 (omega arith) .once) (chain l k (links-linked k before linked) (end ∙ opposite-lit (lit f k) (named k before linked)))
 
   fork-words : (k : ℕ) → ((i : ℕ) → i < k + 4 → Sound n (f i)) → forks f k ≡ true → Fits f 4 (k + 4) (gives 4 (k + 4) f)
@@ -202,20 +208,26 @@ module _ (n : ℕ) (few : n ≤ 64) (f : ℕ → Lits) where
       let g2 = and-left t2 t3 e2 in
       let g3 = and-right t2 t3 e2 in
       let na : Names a = named k before linked in
-      let nb : Names b = names b (sound-held few (less-sound (negatedLits a) (s (k + 1) (omega arith)))) (shows-facts (f (k + 1)) (negatedLits a) b g1 .second) in
-      let nc : Names c = names c (sound-held few (less-sound (negatedLits a) (s (k + 2) (omega arith)))) (shows-facts (f (k + 2)) (negatedLits a) c g2 .second) in
+      let nb : Names b =
+      names b (sound-held few (less-sound (negatedLits a) (s (k + 1) (omega arith)))) (shows-facts (f (k + 1)) (negatedLits a) b g1 .second) in
+      let nc : Names c =
+      names c (sound-held few (less-sound (negatedLits a) (s (k + 2) (omega arith)))) (shows-facts (f (k + 2)) (negatedLits a) c g2 .second) in
       as-given (s 0 (omega arith) .once)
       (fork l k (literalOf b) (literalOf c) (links-linked k before linked) (nb .literal) (nc .literal)
       (shown-pair (f (k + 1)) a b na nb g1) (shown-pair (f (k + 2)) a c na nc g2)
-      (shows-pair (f (k + 3)) (opposite (literalOf b)) (opposite (literalOf c)) (opposite-is (literalOf b) (nb .literal)) (opposite-is (literalOf c) (nc .literal))
+      (shows-pair (f (k + 3)) (opposite (literalOf b)) (opposite (literalOf c)) (opposite-is (literalOf b) (nb .literal))
+      (opposite-is (literalOf c) (nc .literal))
       (rw (← opposite-lit b nb, ← opposite-lit c nc) g3)))
 
-  pub fit-words : (kind count : ℕ) → 1 ≤ kind → kind ≤ 4 → countFits kind count ≡ true → ((i : ℕ) → i < count → Sound n (f i)) → fits kind count f ≡ true → Fits f kind count (gives kind count f)
+  pub fit-words : (kind count : ℕ) → 1 ≤ kind → kind ≤ 4 → countFits kind count ≡ true → ((i : ℕ) → i < count → Sound n (f i))
+      → fits kind count f ≡ true → Fits f kind count (gives kind count f)
   unfolding fits fewest most gives
   fit-words kind count low high =
       by-kind (λ j. countFits j count ≡ true → ((i : ℕ) → i < count → Sound n (f i)) → fits j count f ≡ true → Fits f j count (gives j count f))
       (λ c s e. let q : count ≡ 2 = omega (arith, counted 1 count c) in rw q (merge-words (λ i k. s i (omega arith)) e))
       (λ c s e. let q : count ≡ 2 = omega (arith, counted 2 count c) in rw q (shift-words (λ i k. s i (omega arith)) e))
-      (λ c s e. let q : count ≡ suc (suc (count - 2)) = omega (arith, counted 3 count c) in subst (λ (m : ℕ). Fits f 3 m (gives 3 m f)) (sym q) (chain-words (count - 2) (λ i k. s i (omega arith)) e))
-      (λ c s e. let q : count ≡ count - 4 + 4 = omega (arith, counted 4 count c) in subst (λ (m : ℕ). Fits f 4 m (gives 4 m f)) (sym q) (fork-words (count - 4) (λ i k. s i (omega arith)) e))
+      (λ c s e. let q : count ≡ suc (suc (count - 2)) = omega (arith, counted 3 count c) in subst (λ (m : ℕ). Fits f 3 m (gives 3 m f)) (sym q)
+      (chain-words (count - 2) (λ i k. s i (omega arith)) e))
+      (λ c s e. let q : count ≡ count - 4 + 4 = omega (arith, counted 4 count c) in subst (λ (m : ℕ). Fits f 4 m (gives 4 m f)) (sym q)
+      (fork-words (count - 4) (λ i k. s i (omega arith)) e))
       kind low high

@@ -14,9 +14,9 @@ use Rattle.rules.specs.Decide.{decideWhy, decideStep}
 use Rattle.rules.specs.Rewrite.{given, stored, empties, lightest, rewriteWhy, rewriteStep}
 use Rattle.rules.specs.TakeBack.{lastPlace, withdrawn}
 use Rattle.step_laws.specs.Framed.{Framed}
-use Rattle.step_laws.proofs.Formed.{Formed, place-mono}
-use Rattle.step_laws.proofs.Stores.{reweighed-out}
-use Rattle.step_laws.proofs.Verdicts.{decide-fine, rewrite-fine}
+use Rattle.desk_laws.proofs.Formed.{Formed, place-mono}
+use Rattle.desk_laws.proofs.Stores.{Outside, reweighed-out}
+use Rattle.desk_laws.proofs.Verdicts.{decide-fine, rewrite-fine}
 use Rattle.step_laws.proofs.Entries.{length-withdrawn, withdrawn-head, withdrawn-out, entry-fits}
 use Rattle.step_laws.proofs.Undoing.{unset, unset-out, length-unset, emptied, length-emptied, emptied-head, emptied-past}
 use Rattle.step_laws.proofs.Decisions.{length-decided, decided-out, decided-head}
@@ -41,10 +41,9 @@ past-desk : (c p : ℕ) → deskWords c ≤ p → (headWords ≤ p) × (rowPlace
 unfolding deskWords rowPlace
 past-desk c p h = omega arith
 
--- past the rows is past each weight
-row-before : (d : List ℕ) (j q : ℕ) → j < capacity d → rowPlace (capacity d) ≤ q → q ≡ rowPlace j + 2 → ⊥
-unfolding rowPlace
-row-before d j q h far e = omega arith
+-- past the rows is outside each of them
+past-row : (d : List ℕ) (j q : ℕ) → j < capacity d → rowPlace (capacity d) ≤ q → Outside q j
+past-row d j q h far = inr (le-trans (place-mono h) far)
 
 pub decide-framed : (d : List ℕ) (l : ℤ) → decideWhy d l ≡ Fine → Framed d (decideStep d l)
 decide-framed d l fine =
@@ -74,9 +73,11 @@ rewrite-framed d kind named fine =
       same-loaded = rewritten-head d kind w named new c p 7 (omega arith);
       past = λ q h.
           let far = past-desk (capacity d) q h in
-          rewritten-out d kind w named new c p q (λ e. omega arith) (λ e. omega arith) (λ e. omega arith) (inr (le-trans (entry-fits d (standing d) (ok .room)) h))
+          rewritten-out d kind w named new c p q (λ e. omega arith) (λ e. omega arith) (λ e. omega arith)
+          (inr (le-trans (entry-fits d (standing d) (ok .room)) h))
           ∙ rows-out d w named new q (inr (le-trans (place-mono (ok .space)) (far .1)))
-          ∙ reweighed-out (λ x. x - w) (λ i. getD named i 0) d (length named) q (λ i l e. row-before d (getD named i 0) q (omega (arith, ok .used i l, ok .desk .fitting)) (far .1) e);
+          ∙ reweighed-out (λ x. x - w) (λ i. getD named i 0) d (length named) q
+          (λ i l. past-row d (getD named i 0) q (omega (arith, ok .used i l, ok .desk .fitting)) (far .1));
     })
 
 -- ---- the parts of a taking back
@@ -117,5 +118,5 @@ emptied-framed d f w row k first c fits below =
           let far = past-desk (capacity d) p h in
           let rows : first + (inUse d - first) ≤ capacity d = omega (arith, f .fitting) in
           emptied-past d w row k first m c p (le-trans (place-mono rows) (far .1))
-          ∙ reweighed-out (λ x. x + w) row d k p (λ i l e. row-before d (row i) p (omega (arith, below i l, f .fitting)) (far .1) e);
+          ∙ reweighed-out (λ x. x + w) row d k p (λ i l. past-row d (row i) p (omega (arith, below i l, f .fitting)) (far .1));
     }

@@ -1,13 +1,13 @@
 -- The parts of a taking back, each on any well-formed clean desk: the last entry withdrawn, a decision cleared, a rewriting's rows freed and
 -- its named rows' weights regained. After each the desk is well formed and clean again; where weights grow, (d) is asked for.
-use Prim.Native.Nat.{ℕ, _+_, _-_, _*_, _≤_, _<_}
+use Prim.Native.Nat.{ℕ, suc, _+_, _-_, _*_, _≤_, _<_}
 use mathlib.Core.Path.{_≡_, sym, _∙_}
 use mathlib.Core.Logic.{inl, inr, ⊎-elim}
 use mathlib.Core.Bool.{true, not, _&&_}
 use mathlib.Core.List.{List}
 use native.Mathlib.Nat.{le-trans}
 use native.Mathlib.Omega.{arith}
-use lib.ListN.{getD}
+use lib.ListN.{length, getD}
 use Rattle.masks.specs.Masks.{has, without}
 use Rattle.masks.proofs.Choice.{lt-or-le, and-left, and-right}
 use Rattle.masks.proofs.Bits.{has-without}
@@ -16,11 +16,12 @@ use Rattle.rules.specs.Table.{mostWeight}
 use Rattle.rules.specs.Desk.{headWords, variables, inUse, capacity, standing, decided, truths, loaded, entryWords, rowPlace, entryPlace, deskWords, weightOn}
 use Rattle.rules.specs.TakeBack.{lastPlace, withdrawn}
 use Rattle.step_laws.specs.Clean.{Clean}
-use Rattle.step_laws.proofs.Formed.{Formed, head-inside, place-mono}
-use Rattle.step_laws.proofs.Stores.{reweighed-out}
+use Rattle.desk_laws.proofs.Formed.{rows-inside, Formed, head-inside, place-mono}
+use Rattle.desk_laws.proofs.Stores.{reweighed-out}
 use Rattle.step_laws.proofs.Entries.{last-past, withdrawn-head, withdrawn-row, length-withdrawn, withdrawn-standing, withdrawn-in, withdrawn-out}
-use Rattle.step_laws.proofs.Undoing.{unset, unset-out, length-unset, unset-row, unset-decided, unset-truths, emptied, length-emptied, emptied-use, emptied-freed, emptied-past, emptied-head, emptied-lits}
-use Rattle.step_laws.proofs.Weights.{measured-same, weight-measured}
+use Rattle.step_laws.proofs.Undoing.{unset, unset-out, length-unset, unset-row, unset-decided, unset-truths, emptied, length-emptied}
+use Rattle.step_laws.proofs.Undoing.{emptied-use, emptied-freed, emptied-past, emptied-head, emptied-lits}
+use Rattle.desk_laws.proofs.Weights.{measured-same, weight-measured}
 
 -- ---- the entry withdrawn
 
@@ -97,7 +98,8 @@ module _ (d : List ℕ) (f : Formed d) (v : ℕ) where
       within-of (without (truths d) v) (without (decided d) v)
       (λ w h.
       let parts : (has (truths d) w && not (has v w)) ≡ true = sym (has-without (truths d) v w) ∙ h in
-      has-without (decided d) v w ∙ rw (within (truths d) (decided d) (f .nested) w (and-left (has (truths d) w) (not (has v w)) parts)) (and-right (has (truths d) w) (not (has v w)) parts))
+      has-without (decided d) v w ∙ rw (within (truths d) (decided d) (f .nested) w (and-left (has (truths d) w) (not (has v w)) parts))
+      (and-right (has (truths d) w) (not (has v w)) parts))
 
   pub unset-formed : Formed e
   unset-formed =
@@ -142,12 +144,17 @@ module _ (d : List ℕ) (f : Formed d) (v : ℕ) where
 
 -- ---- a rewriting's rows freed and weights regained
 
-module _ (d : List ℕ) (f : Formed d) (w : ℕ) (row : ℕ → ℕ) (k first c : ℕ) (loads : loaded d ≤ first) (fits : first ≤ inUse d) (below : (i : ℕ) → i < k → row i < first) where
+module _ (d : List ℕ) (f : Formed d) (w : ℕ) (row : ℕ → ℕ) (k first c : ℕ) (loads : loaded d ≤ first) (fits : first ≤ inUse d)
+    (below : (i : ℕ) → i < k → row i < first) where
   abbrev rest : List ℕ
   rest = emptied d w row k first (inUse d - first) c
 
   head : (p : ℕ) → (p < headWords) × (p ≡ 1 → ⊥) × (p ≡ 4 → ⊥) → getD rest p 0 ≡ getD d p 0
   head = emptied-head d w row k first (inUse d - first) c
+
+  -- the named rows lie within the lent words
+  inside : (i : ℕ) → i < k → rowPlace (suc (row i)) ≤ length d
+  inside i l = rows-inside f (suc (row i)) (omega (arith, below i l, f .fitting))
 
   freed-use : inUse rest ≡ first
   freed-use = emptied-use d w row k first (inUse d - first) c (head-inside f)
@@ -157,7 +164,7 @@ module _ (d : List ℕ) (f : Formed d) (w : ℕ) (row : ℕ → ℕ) (k first c 
   unfolding rowPlace
   past-use p h =
       emptied-past d w row k first (inUse d - first) c p (omega arith)
-      ∙ reweighed-out (λ x. x + w) row d k p (λ i l e. omega (arith, below i l))
+      ∙ reweighed-out (λ x. x + w) row d k p (λ i l. inr (omega (arith, below i l)))
 
   within-use : (p : ℕ) → p < rowPlace (inUse d) → p < rowPlace (first + (inUse d - first))
   unfolding rowPlace
@@ -181,7 +188,7 @@ module _ (d : List ℕ) (f : Formed d) (w : ℕ) (row : ℕ → ℕ) (k first c 
         steps = rw s (f .steps);
         sound = λ i h.
             let here : i < first = rw freed-use at h in
-            rw (n, emptied-lits d w row k first (inUse d - first) c i here) (f .sound i (omega arith));
+            rw (n, emptied-lits d w row k first (inUse d - first) c inside i here) (f .sound i (omega arith));
         light = light;
         nested = rw (t, m) (f .nested);
         within = rw (m, n) (f .within);
@@ -196,7 +203,8 @@ module _ (d : List ℕ) (f : Formed d) (w : ℕ) (row : ℕ → ℕ) (k first c 
         rows = λ p a b.
             let here : rowPlace first ≤ p = rw freed-use at a in
             let there : p < rowPlace (capacity d) = rw cap at b in
-            ⊎-elim (λ h. emptied-freed d w row k first (inUse d - first) c p here (within-use p h)) (λ h. past-use p h ∙ clean .rows p h there) (lt-or-le p (rowPlace (inUse d)));
+            ⊎-elim (λ h. emptied-freed d w row k first (inUse d - first) c p here (within-use p h)) (λ h. past-use p h ∙ clean .rows p h there)
+            (lt-or-le p (rowPlace (inUse d)));
         entries = λ p a b.
             let here : rowPlace (capacity d) + entryWords * standing d ≤ p = rw (cap, s) at a in
             let there : p < deskWords (capacity d) = rw cap at b in

@@ -48,7 +48,8 @@ module _ (f : ℕ → Lits) (l : ℕ → ℤ) where
       let before = linked-before k w in
       both (linked-links k before)
       (rw (linked-not k before, linked-lit (suc k) w)
-      (pair-shows (f (suc k)) (opposite (l k)) (l (suc k)) (opposite-is (l k) (before .literals k (le-refl k))) (w .literals (suc k) (le-refl (suc k))) (w .rows k (le-refl (suc k)))))
+      (pair-shows (f (suc k)) (opposite (l k)) (l (suc k)) (opposite-is (l k) (before .literals k (le-refl k)))
+      (w .literals (suc k) (le-refl (suc k))) (w .rows k (le-refl (suc k)))))
 
   pub linked-between : (k : ℕ) → Linked f k l → compensating f k ≡ between l k
   unfolding compensating between
@@ -84,11 +85,15 @@ module _ (rest : Lits) (a : ℤ) (literal : isLiteral a ≡ true) (own : bitAnd 
   pub rest-left : apartFrom (bitOf a) (together rest (litsOf a)) ≡ rest
   unfolding apartFrom together
   rest-left =
-      let put : without (bitOr (rest .positive) (bitOf a)) (bitOf a) ≡ rest .positive = without-or-right (rest .positive) (bitOf a) ∙ without-apart (rest .positive) (bitOf a) positive-apart in
-      let set : without (bitOr (rest .negative) (bitOf a)) (bitOf a) ≡ rest .negative = without-or-right (rest .negative) (bitOf a) ∙ without-apart (rest .negative) (bitOf a) negative-apart in
+      let put : without (bitOr (rest .positive) (bitOf a)) (bitOf a) ≡ rest .positive =
+      without-or-right (rest .positive) (bitOf a) ∙ without-apart (rest .positive) (bitOf a) positive-apart in
+      let set : without (bitOr (rest .negative) (bitOf a)) (bitOf a) ≡ rest .negative =
+      without-or-right (rest .negative) (bitOf a) ∙ without-apart (rest .negative) (bitOf a) negative-apart in
       ⊎-elim
-      (λ t. rw (lits-positive a t) (lits-ext _ rest put (ap (λ (m : ℕ). without m (bitOf a)) (or-zero-r (rest .negative)) ∙ without-apart (rest .negative) (bitOf a) negative-apart)))
-      (λ t. rw (lits-negative a t) (lits-ext _ rest (ap (λ (m : ℕ). without m (bitOf a)) (or-zero-r (rest .positive)) ∙ without-apart (rest .positive) (bitOf a) positive-apart) set))
+      (λ t. rw (lits-positive a t) (lits-ext _ rest put
+      (ap (λ (m : ℕ). without m (bitOf a)) (or-zero-r (rest .negative)) ∙ without-apart (rest .negative) (bitOf a) negative-apart)))
+      (λ t. rw (lits-negative a t) (lits-ext _ rest
+      (ap (λ (m : ℕ). without m (bitOf a)) (or-zero-r (rest .positive)) ∙ without-apart (rest .positive) (bitOf a) positive-apart) set))
       (cases (isPositive a))
 
   pub meet-bit : bitAnd (rest .positive) (rest .negative) ≡ 0 → meet (together rest (litsOf a)) (together rest (litsOf (opposite a))) ≡ bitOf a
@@ -121,7 +126,8 @@ module _ (f : ℕ → Lits) where
       ap (less (f (k + i))) (linked-not f l k w) ∙ pair-less (f (k + i)) (opposite (l k)) b (opposite-is (l k) (w .literals k (le-refl k))) hb p
 
   -- no variable stands both ways in the first row
-  pub words-fit : bitAnd (f 0 .positive) (f 0 .negative) ≡ 0 → {kind named : ℕ} {rows : List Lits} → Fits f kind named rows → (fits kind named f ≡ true) × (gives kind named f ≡ rows)
+  pub words-fit : bitAnd (f 0 .positive) (f 0 .negative) ≡ 0 → {kind named : ℕ} {rows : List Lits} → Fits f kind named rows
+      → (fits kind named f ≡ true) × (gives kind named f ≡ rows)
   unfolding fits gives merges shifts chains forks
   words-fit once (merge a rest literal own p q) =
       let v : meet (f 0) (f 1) ≡ bitOf a = ap₂ meet p q ∙ meet-bit rest a literal own (rest-once rest a p once) in
@@ -134,7 +140,10 @@ module _ (f : ℕ → Lits) where
       (linked-links f l 1 w, ap₂ (λ (x y : Lits). x ∷ y ∷ []) (ap₂ together (linked-lit f l 0 before) (linked-not f l 1 w)) (linked-lit f l 1 w))
   words-fit once (chain l k w e) =
       let k2 : suc (suc k) - 2 ≡ k = omega arith in
-      rw k2 (both (linked-links f l k w) (eq-same (f (k + 1)) (negatedLits (lit f k)) (e ∙ sym (linked-not f l k w))), ap (λ (x : List Lits). noLits ∷ x) (linked-between f l k w))
+      rw k2 (
+        both (linked-links f l k w) (eq-same (f (k + 1)) (negatedLits (lit f k)) (e ∙ sym (linked-not f l k w))),
+        ap (λ (x : List Lits). noLits ∷ x) (linked-between f l k w),
+      )
   words-fit once (fork l k b c w hb hc p q r) =
       let k4 : k + 4 - 4 ≡ k = omega arith in
       let literal = opposite-is (l k) (w .literals k (le-refl k)) in
@@ -148,4 +157,7 @@ module _ (f : ℕ → Lits) where
       let s2 : shows (f (k + 2)) (negatedLits (lit f k)) (forked f k 2) ≡ true = rw (na, ec) (pair-shows (f (k + 2)) (opposite (l k)) c literal hc q) in
       let s3 : shows (f (k + 3)) (negatedLits (forked f k 1)) (negatedLits (forked f k 2)) ≡ true =
       rw (nb, nc) (pair-shows (f (k + 3)) (opposite b) (opposite c) (opposite-is b hb) (opposite-is c hc) r) in
-      rw k4 (both (linked-links f l k w) (both s1 (both s2 s3)), rw (linked-between f l k w, negated-together (forked f k 1) (forked f k 2), nb, nc, na, a, eb, ec))
+      rw k4 (
+        both (linked-links f l k w) (both s1 (both s2 s3)),
+        rw (linked-between f l k w, negated-together (forked f k 1) (forked f k 2), nb, nc, na, a, eb, ec),
+      )

@@ -17,11 +17,12 @@ use Rattle.literals.specs.Lits.{negatedLits, together, variablesOf, isOne}
 use Rattle.literals.proofs.TwoMasks.{variables-negated}
 use Rattle.rules.specs.Table.{holds}
 use Rattle.rules.specs.Rewrite.{shows, lit, links, compensating, empties}
-use Rattle.step_laws.proofs.Formed.{Sound}
-use Rattle.step_laws.proofs.Weights.{missed}
+use Rattle.desk_laws.proofs.Formed.{Sound}
+use Rattle.desk_laws.proofs.Weights.{missed}
 use Rattle.step_laws.proofs.Balance.{total}
-use Rattle.step_laws.proofs.Readings.{Alone, one-alone, holds-together, holds-negated}
-use Rattle.step_laws.proofs.Sounds.{sound-held, less-sound, negated-sound, together-sound, one-some, together-some, Shows, shows-facts, Each, each-append, total-append, empties-append}
+use Rattle.desk_laws.proofs.Readings.{Alone, one-alone, holds-together, holds-negated}
+use Rattle.step_laws.proofs.Sounds.{sound-held, less-sound, negated-sound, together-sound, one-some, together-some, Shows, shows-facts, Each}
+use Rattle.step_laws.proofs.Sounds.{each-append, total-append, empties-append}
 
 -- rows missed, by what holds of the literals: (not a, b) and a against (a, not b) and b
 four : (x y : Bool) → cond (not x || y) 0 1 + cond x 0 1 ≡ cond (x || not y) 0 1 + cond y 0 1

@@ -11,6 +11,7 @@ use lib.Dec.{eqb, ltb}
 use lib.ListN.{length, getD, drop, replicate, length-append, length-drop, length-replicate, getD-replicate, List·getD-append}
 use lib.Pow.{pow-pos}
 use lib.Seq.{getD-append-add, getD-drop}
+use Rattle.masks.proofs.Choice.{or-none}
 use Rattle.masks.specs.Sums.{sum}
 use Rattle.masks.proofs.Sets.{zero-without}
 use Rattle.masks.proofs.Sums.{sum-ext, upwards}
@@ -20,11 +21,13 @@ use Rattle.rules.specs.declared.Refusal.the-variants.{TooManyVariables, BadTabl
 use Rattle.rules.specs.declared.Judged.{Judged}
 use Rattle.rules.specs.declared.Judged.the-variants.{Fine}
 use Rattle.rules.specs.Refusals.{refuse, inOrder}
-use Rattle.rules.specs.Table.{rowWords, mostRows, mostWeight, rowIn, rowOf, rowCount, givenUp, weighs, badTable, badLits, badWeight, rowWhy, rowsWhy, sumTooLarge}
-use Rattle.rules.specs.Desk.{mostCapacity, mostSteps, entryWords, variables, inUse, capacity, standing, conceded, decided, truths, loaded, rowPlace, entryPlace, deskWords, rowOn, weightOn, deskWeighs, loadWhy, loadStep}
+use Rattle.rules.specs.Table.{rowWords, mostRows, mostWeight, rowOf, rowCount, givenUp, weighs, badTable, badLits, badWeight, rowWhy, rowsWhy, sumTooLarge}
+use Rattle.rules.specs.Desk.{headWords, mostCapacity, mostSteps, entryWords, variables, inUse, capacity, standing, conceded, decided, truths, loaded}
+use Rattle.rules.specs.Desk.{rowPlace, entryPlace, deskWords, rowOn, weightOn, deskWeighs, loadWhy, loadStep}
 use Rattle.step_laws.specs.Clean.{Clean}
-use Rattle.step_laws.proofs.Formed.{neither, Sound, sound-of, Formed}
-use Rattle.step_laws.proofs.Verdicts.{past, past-both}
+use Rattle.desk_laws.proofs.Rows.{row-of-words}
+use Rattle.desk_laws.proofs.Formed.{Sound, sound-of, Formed}
+use Rattle.rules.proofs.Judging.{refuse-fine, order-fine}
 
 pub record Loaded (n : ℕ) (table : List ℕ) (c : ℕ) (d : List ℕ) : Type 0 where
   pub counted : n ≤ mostVariables
@@ -40,8 +43,8 @@ rows-fine : (n : ℕ) (table : List ℕ) (k : ℕ) → rowsWhy n table k ≡ Fin
 unfolding rowsWhy rowWhy
 rows-fine n table zero e i h = absurd (omega arith)
 rows-fine n table (suc k) e i h =
-    let parts = past-both (rowsWhy n table k) (rowWhy n k (rowOf table k)) e in
-    let row = past (badLits n (rowOf table k .lits)) (BadLiterals k) (refuse (badWeight (rowOf table k .weight)) (BadWeight k) Fine) (parts .1) in
+    let parts = order-fine (rowsWhy n table k) (rowWhy n k (rowOf table k)) e in
+    let row = refuse-fine (badLits n (rowOf table k .lits)) (BadLiterals k) (refuse (badWeight (rowOf table k .weight)) (BadWeight k) Fine) (parts .1) in
     upwards {P = λ i. Sound n (rowOf table i .lits)} (rows-fine n table k (parts .0)) (sound-of n (rowOf table k .lits) (row .0)) i h
 
 pub load-fine : (n : ℕ) (table : List ℕ) (c : ℕ) (d : List ℕ) → loadWhy n table c d ≡ Fine → Loaded n table c d
@@ -52,13 +55,14 @@ load-fine n table c d e =
     let last : Judged = inOrder rows (refuse heavy SumTooLarge Fine) in
     let odd : Bool = not (eqb (length table % rowWords) 0) || ltb mostRows (rowCount table) in
     let cap : Bool = ltb c (rowCount table) || ltb mostCapacity c in
-    let a = past (ltb mostVariables n) TooManyVariables (refuse odd BadTable (refuse cap BadCapacity (refuse (ltb (length d) (deskWords c)) NoRoom last))) e in
-    let b = past odd BadTable (refuse cap BadCapacity (refuse (ltb (length d) (deskWords c)) NoRoom last)) (a .1) in
-    let g = past cap BadCapacity (refuse (ltb (length d) (deskWords c)) NoRoom last) (b .1) in
-    let h = past (ltb (length d) (deskWords c)) NoRoom last (g .1) in
-    let r = past-both rows (refuse heavy SumTooLarge Fine) (h .1) in
-    let shape = neither (not (eqb (length table % rowWords) 0)) (ltb mostRows (rowCount table)) (b .0) in
-    let caps = neither (ltb c (rowCount table)) (ltb mostCapacity c) (g .0) in
+    let a =
+    refuse-fine (ltb mostVariables n) TooManyVariables (refuse odd BadTable (refuse cap BadCapacity (refuse (ltb (length d) (deskWords c)) NoRoom last))) e in
+    let b = refuse-fine odd BadTable (refuse cap BadCapacity (refuse (ltb (length d) (deskWords c)) NoRoom last)) (a .1) in
+    let g = refuse-fine cap BadCapacity (refuse (ltb (length d) (deskWords c)) NoRoom last) (b .1) in
+    let h = refuse-fine (ltb (length d) (deskWords c)) NoRoom last (g .1) in
+    let r = order-fine rows (refuse heavy SumTooLarge Fine) (h .1) in
+    let shape = or-none (not (eqb (length table % rowWords) 0)) (ltb mostRows (rowCount table)) (b .0) in
+    let caps = or-none (ltb c (rowCount table)) (ltb mostCapacity c) (g .0) in
     record {
       counted = ltb-false mostVariables n (a .0);
       whole = omega (arith, eqb-true (length table % rowWords) 0 (not-false (eqb (length table % rowWords) 0) (shape .0)));
@@ -67,7 +71,7 @@ load-fine n table c d e =
       roomy = ltb-false mostCapacity c (caps .1);
       long = ltb-false (length d) (deskWords c) (h .0);
       sound = rows-fine n table (rowCount table) (r .0);
-      light = ltb-false mostWeight (sum (rowCount table) (λ i. rowOf table i .weight)) (past heavy SumTooLarge Fine (r .1) .0);
+      light = ltb-false mostWeight (sum (rowCount table) (λ i. rowOf table i .weight)) (refuse-fine heavy SumTooLarge Fine (r .1) .0);
     }
 
 module _ (n : ℕ) (table : List ℕ) (c : ℕ) (d : List ℕ) (ok : Loaded n table c d) where
@@ -81,18 +85,18 @@ module _ (n : ℕ) (table : List ℕ) (c : ℕ) (d : List ℕ) (ok : Loaded n ta
   head = n ∷ rowCount table ∷ c ∷ 0 ∷ 0 ∷ 0 ∷ 0 ∷ rowCount table ∷ []
 
   -- past the head
-  past-head : (k : ℕ) → getD after (8 + k) 0 ≡ getD (table ++ (zeros ++ drop (deskWords c) d)) k 0
+  past-head : (k : ℕ) → getD after (headWords + k) 0 ≡ getD (table ++ (zeros ++ drop (deskWords c) d)) k 0
   unfolding loadStep
   past-head k = getD-append-add head (table ++ (zeros ++ drop (deskWords c) d)) k 0
 
-  in-table : (k : ℕ) → k < length table → getD after (8 + k) 0 ≡ getD table k 0
+  in-table : (k : ℕ) → k < length table → getD after (headWords + k) 0 ≡ getD table k 0
   in-table k h = past-head k ∙ List·getD-append table (zeros ++ drop (deskWords c) d) 0 k h
 
-  in-zeros : (p : ℕ) → 8 + length table ≤ p → p < deskWords c → getD after p 0 ≡ 0
+  in-zeros : (p : ℕ) → headWords + length table ≤ p → p < deskWords c → getD after p 0 ≡ 0
   unfolding deskWords rowPlace
   in-zeros p a b =
-      let k : ℕ = p - (8 + length table) in
-      let e : p ≡ 8 + (length table + k) = omega arith in
+      let k : ℕ = p - (headWords + length table) in
+      let e : p ≡ headWords + (length table + k) = omega arith in
       let l : k < rowWords * c - length table + mostSteps * entryWords = omega (arith, ok .whole, ok .space) in
       let z : k < length zeros = rw (length-replicate {A = ℕ} (rowWords * c - length table + mostSteps * entryWords) 0) l in
       ap (λ (q : ℕ). getD after q 0) e ∙ past-head (length table + k)
@@ -105,7 +109,7 @@ module _ (n : ℕ) (table : List ℕ) (c : ℕ) (d : List ℕ) (ok : Loaded n ta
   loaded-past p h =
       let m : ℕ = rowWords * c - length table + mostSteps * entryWords in
       let k : ℕ = p - deskWords c in
-      let e : p ≡ 8 + (length table + (length zeros + k)) = omega (arith, length-replicate {A = ℕ} m 0, ok .whole, ok .space) in
+      let e : p ≡ headWords + (length table + (length zeros + k)) = omega (arith, length-replicate {A = ℕ} m 0, ok .whole, ok .space) in
       let q : deskWords c + k ≡ p = omega arith in
       ap (λ (x : ℕ). getD after x 0) e ∙ past-head (length table + (length zeros + k))
       ∙ getD-append-add table (zeros ++ drop (deskWords c) d) (length zeros + k) 0 ∙ getD-append-add zeros (drop (deskWords c) d) k 0
@@ -122,14 +126,12 @@ module _ (n : ℕ) (table : List ℕ) (c : ℕ) (d : List ℕ) (ok : Loaded n ta
       omega (arith, ok .whole, ok .space, ok .long)
 
   pub loaded-row : (i : ℕ) → i < rowCount table → rowOn after i ≡ rowOf table i
-  unfolding rowOn rowOf rowIn rowPlace
+  unfolding rowOn rowOf rowPlace
   loaded-row i h =
-      let p : 8 + 3 * i + 1 ≡ 8 + (3 * i + 1) = omega arith in
-      let q : 8 + 3 * i + 2 ≡ 8 + (3 * i + 2) = omega arith in
-      let a : getD after (8 + 3 * i) 0 ≡ getD table (3 * i) 0 = in-table (3 * i) (omega (arith, ok .whole)) in
-      let b : getD after (8 + 3 * i + 1) 0 ≡ getD table (3 * i + 1) 0 = rw p (in-table (3 * i + 1) (omega (arith, ok .whole))) in
-      let w : getD after (8 + 3 * i + 2) 0 ≡ getD table (3 * i + 2) 0 = rw q (in-table (3 * i + 2) (omega (arith, ok .whole))) in
-      λ t. record { lits = record { positive = a t; negative = b t }; weight = w t }
+      row-of-words table after (rowWords * i) (rowPlace i)
+      (λ k l.
+      let at : rowPlace i + k ≡ headWords + (rowWords * i + k) = omega arith in
+      rw at (in-table (rowWords * i + k) (omega (arith, ok .whole))))
 
   pub loaded-use : inUse after ≡ rowCount table
   unfolding loadStep
@@ -191,4 +193,5 @@ module _ (n : ℕ) (table : List ℕ) (c : ℕ) (d : List ℕ) (ok : Loaded n ta
   unfolding deskWeighs weighs
   loaded-weighs reading =
       rw (loaded-rest .1, loaded-use)
-      (zero-add (sum (rowCount table) (λ i. givenUp (rowOn after i) reading)) ∙ sum-ext (rowCount table) (λ i h. ap (λ (r : Row). givenUp r reading) (loaded-row i h)))
+      (zero-add (sum (rowCount table) (λ i. givenUp (rowOn after i) reading))
+      ∙ sum-ext (rowCount table) (λ i h. ap (λ (r : Row). givenUp r reading) (loaded-row i h)))

@@ -15,9 +15,9 @@ use Rattle.literals.specs.Lits.{together}
 use Rattle.literals.proofs.TwoMasks.{Held, lits-ext}
 use Rattle.rules.specs.Table.{holds}
 use Rattle.rules.specs.Rewrite.{clash as meet, apartFrom}
-use Rattle.step_laws.proofs.Formed.{Sound}
-use Rattle.step_laws.proofs.Weights.{missed}
-use Rattle.step_laws.proofs.Readings.{holds-together, holds-positive, holds-negative}
+use Rattle.desk_laws.proofs.Formed.{Sound}
+use Rattle.desk_laws.proofs.Weights.{missed}
+use Rattle.desk_laws.proofs.Readings.{holds-together, holds-positive, holds-negative}
 
 two : (x y : Bool) → cond (x || y) 0 1 + cond (x || not y) 0 1 ≡ cond x 0 1
 two true y = refl
@@ -61,7 +61,8 @@ two-swapped false false = refl
 pub meet-held : {l : Lits} (m : Lits) → Held l → meet l m < 2 ^ 64
 unfolding meet
 meet-held {l} m h =
-    or-lt 64 (bitAnd (l .positive) (m .negative)) (bitAnd (l .negative) (m .positive)) (and-lt-left 64 (m .negative) (h .positives)) (and-lt-left 64 (m .positive) (h .negatives))
+    or-lt 64 (bitAnd (l .positive) (m .negative)) (bitAnd (l .negative) (m .positive)) (and-lt-left 64 (m .negative) (h .positives))
+    (and-lt-left 64 (m .positive) (h .negatives))
 
 -- two rows alike but for the variable of bit t
 pub merged : {n : ℕ} {l m : Lits} → Sound n l → Sound n m → (t reading : ℕ) → has (meet l m) t ≡ true → apartFrom (2 ^ t) l ≡ apartFrom (2 ^ t) m
@@ -71,10 +72,21 @@ merged {n} {l} {m} sl sm t reading h same =
     ⊎-elim
     (λ q.
     let p : (has (l .positive) t && has (m .negative) t) ≡ true = sym (has-and (l .positive) (m .negative) t) ∙ q in
-    rw (take-positive sl t reading (and-left (has (l .positive) t) (has (m .negative) t) p), take-negative sm t reading (and-right (has (l .positive) t) (has (m .negative) t) p), ← same)
+    rw (
+      take-positive sl t reading (and-left (has (l .positive) t) (has (m .negative) t) p),
+      take-negative sm t reading
+          (and-right (has (l .positive) t) (has (m .negative) t) p),
+      ← same,
+    )
     (two (holds (apartFrom (2 ^ t) l) reading) (has reading t)))
     (λ q.
     let p : (has (l .negative) t && has (m .positive) t) ≡ true = sym (has-and (l .negative) (m .positive) t) ∙ q in
-    rw (take-negative sl t reading (and-left (has (l .negative) t) (has (m .positive) t) p), take-positive sm t reading (and-right (has (l .negative) t) (has (m .positive) t) p), ← same)
+    rw (
+      take-negative sl t reading (and-left (has (l .negative) t) (has (m .positive) t) p),
+      take-positive sm t reading
+          (and-right (has (l .negative) t) (has (m .positive) t) p),
+      ← same,
+    )
     (two-swapped (holds (apartFrom (2 ^ t) l) reading) (has reading t)))
-    (or-cases (has (bitAnd (l .positive) (m .negative)) t) (has (bitAnd (l .negative) (m .positive)) t) (sym (has-or (bitAnd (l .positive) (m .negative)) (bitAnd (l .negative) (m .positive)) t) ∙ h))
+    (or-cases (has (bitAnd (l .positive) (m .negative)) t) (has (bitAnd (l .negative) (m .positive)) t)
+    (sym (has-or (bitAnd (l .positive) (m .negative)) (bitAnd (l .negative) (m .positive)) t) ∙ h))

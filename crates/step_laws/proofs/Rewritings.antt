@@ -1,20 +1,20 @@
 -- A rewriting before any kind is looked at: named rows lose w, any new rows of weight w come behind those in use, conceded gains any sum.
 -- What each word is afterwards: of the head, of a row, of the entry. A place outside these is read as before.
-use Prim.Native.Nat.{ℕ, suc, _+_, _-_, _*_, _≤_, _<_}
+use Prim.Native.Nat.{ℕ, suc, _+_, _-_, _*_, _≤_, _<_, min}
 use mathlib.Core.Path.{_≡_, refl, sym, ap, _∙_}
 use mathlib.Core.Logic.{_⊎_, inl}
 use mathlib.Core.List.{List, [], _∷_, _++_}
 use native.Mathlib.Nat.{add-zero}
 use native.Mathlib.Omega.{arith}
-use lib.ListN.{length, getD, set, replicate, length-set, length-append, length-replicate, List·getD-append}
-use lib.Seq.{getD-set-same, getD-set-other, getD-append-add}
+use lib.ListN.{length, getD, set, take, drop, replicate, length-set, length-append, length-take, length-drop, length-replicate, List·getD-append}
+use lib.Seq.{getD-set-same, getD-set-other, getD-append-add, getD-take, getD-drop, ext-getD}
 use Rattle.literals.specs.declared.Lits.{Lits}
 use Rattle.rules.specs.Desk.{headWords, inUse, capacity, standing, conceded, entryWords, mostSteps, rowPlace, entryPlace, rowOn}
 use Rattle.rules.specs.Decide.{entered}
 use Rattle.rules.specs.Rewrite.{mostNamed, stored, empties, given, lightest, reweighed, laid, rewritingEntry, rewriteStep}
 use Rattle.rules.specs.TakeBack.{lastPlace, lastKind, lastWeight, lastCount, lastNamed, lastFirst}
-use Rattle.step_laws.proofs.Formed.{Formed, head-inside}
-use Rattle.step_laws.proofs.Stores.{Distinct, row-same, length-reweighed, length-laid, laid-out, laid-head, reweighed-head}
+use Rattle.desk_laws.proofs.Formed.{Formed, head-inside}
+use Rattle.desk_laws.proofs.Stores.{Distinct, Outside, row-same, length-reweighed, length-laid, laid-out, laid-head, reweighed-out, reweighed-head}
 use Rattle.step_laws.proofs.Entries.{entry-inside, entry-past, row-past-head, length-entered, entered-out, entered-head, entered-standing, entered-in}
 
 -- the named rows less w, and the new rows behind those in use
@@ -48,14 +48,17 @@ module _ (kind w : ℕ) (named : List ℕ) (first : ℕ) (few : length named ≤
   entry-length =
       let e : length (named ++ (replicate (mostNamed - length named) 0 ++ (first ∷ []))) ≡ length named + ((mostNamed - length named) + 1) =
       length-append named (replicate (mostNamed - length named) 0 ++ (first ∷ []))
-      ∙ ap (λ (x : ℕ). length named + x) (length-append (replicate {A = ℕ} (mostNamed - length named) 0) (first ∷ []) ∙ ap (λ (x : ℕ). x + 1) (length-replicate {A = ℕ} (mostNamed - length named) 0)) in
+      ∙ ap (λ (x : ℕ). length named + x)
+      (length-append (replicate {A = ℕ} (mostNamed - length named) 0) (first ∷ [])
+      ∙ ap (λ (x : ℕ). x + 1) (length-replicate {A = ℕ} (mostNamed - length named) 0)) in
       omega arith
 
   pub entry-named : (i : ℕ) → i < length named → getD (rewritingEntry kind w named first) (3 + i) 0 ≡ getD named i 0
   unfolding rewritingEntry
   entry-named i h = three i ∙ List·getD-append named (replicate (mostNamed - length named) 0 ++ (first ∷ [])) 0 i h
     where
-      three : (i : ℕ) → getD (kind ∷ w ∷ length named ∷ (named ++ (replicate (mostNamed - length named) 0 ++ (first ∷ [])))) (3 + i) 0 ≡ getD (named ++ (replicate (mostNamed - length named) 0 ++ (first ∷ []))) i 0
+      three : (i : ℕ) → getD (kind ∷ w ∷ length named ∷ (named ++ (replicate (mostNamed - length named) 0 ++ (first ∷ [])))) (3 + i) 0 ≡ getD
+          (named ++ (replicate (mostNamed - length named) 0 ++ (first ∷ []))) i 0
       three i = let e : 3 + i ≡ suc (suc (suc i)) = omega arith in rw e
 
   pub entry-first : getD (rewritingEntry kind w named first) 15 0 ≡ first
@@ -142,7 +145,8 @@ module _ (d : List ℕ) (kind w : ℕ) (named : List ℕ) (new : List Lits) (c :
   unfolding rewritten
   rewritten-conceded =
       entered-head counted entry 4 (omega arith)
-      ∙ getD-set-same (set (rowsAfter d w named new) 1 (inUse d + length new)) 4 (conceded d + c) 0 (simp length-set (rw (length-rows d w named new) (omega (arith, head-inside (plan .desk)))))
+      ∙ getD-set-same (set (rowsAfter d w named new) 1 (inUse d + length new)) 4 (conceded d + c) 0
+      (simp length-set (rw (length-rows d w named new) (omega (arith, head-inside (plan .desk)))))
 
   pub rewritten-capacity : capacity after ≡ capacity d
   rewritten-capacity = rewritten-head 2 (omega arith)
@@ -159,6 +163,35 @@ module _ (d : List ℕ) (kind w : ℕ) (named : List ℕ) (new : List Lits) (c :
       row-same (rowsAfter d w named new) after i
       (λ p a b. rewritten-out p (λ q. omega arith) (λ q. omega arith) (λ q. omega arith) (inl (omega (arith, entry-past d (standing d)))))
 
+  -- a place that is none of those: of the head, of a named row, of a new row, of the entry
+  pub rewritten-untouched : (p : ℕ) → (p ≡ 1 → ⊥) → (p ≡ 3 → ⊥) → (p ≡ 4 → ⊥) → ((i : ℕ) → i < length named → Outside p (getD named i 0))
+      → (p < rowPlace (inUse d)) ⊎ (rowPlace (inUse d + length new) ≤ p)
+      → (p < entryPlace d (standing d)) ⊎ (entryPlace d (standing d) + entryWords ≤ p) → getD after p 0 ≡ getD d p 0
+  rewritten-untouched p a b e rows news entries =
+      rewritten-out p a b e entries ∙ rows-out d w named new p news ∙ reweighed-out (λ x. x - w) (λ i. getD named i 0) d (length named) p rows
+
+  -- the words of the entry
+  entry-word : (k : ℕ) → k < entryWords → getD after (entryPlace d (standing d) + k) 0 ≡ getD entry k 0
+  unfolding rewritten
+  entry-word k h =
+      ap (λ (at : ℕ). getD after (at + k) 0) (sym counted-place)
+      ∙ entered-in counted entry k (rw (entry-length kind w named (inUse d) (plan .few)) h)
+      (rw (counted-place, length-counted) (omega (arith, entry-inside (plan .desk) (plan .room))))
+
+  pub rewritten-entry : take entryWords (drop (entryPlace d (standing d)) after) ≡ entry
+  rewritten-entry =
+      let at : ℕ = entryPlace d (standing d) in
+      let inside = entry-inside (plan .desk) (plan .room) in
+      let sixteen = entry-length kind w named (inUse d) (plan .few) in
+      let long : length (take entryWords (drop at after)) ≡ length entry =
+      length-take entryWords (drop at after)
+      ∙ ap (λ (x : ℕ). min entryWords x) (length-drop at after ∙ ap (λ (x : ℕ). x - at) length-rewritten)
+      ∙ omega arith in
+      ext-getD 0 (take entryWords (drop at after)) entry long
+      (λ k h.
+      let l : k < entryWords = omega arith in
+      getD-take entryWords (drop at after) k 0 l ∙ getD-drop at after k 0 ∙ entry-word k l)
+
   -- ---- the last entry
 
   pub rewritten-last : lastPlace after ≡ entryPlace d (standing d)
@@ -168,10 +201,7 @@ module _ (d : List ℕ) (kind w : ℕ) (named : List ℕ) (new : List Lits) (c :
       rw (s, rewritten-capacity)
 
   last-word : (k : ℕ) → k < entryWords → getD after (lastPlace after + k) 0 ≡ getD entry k 0
-  unfolding rewritten
-  last-word k h =
-      ap (λ (at : ℕ). getD after (at + k) 0) (rewritten-last ∙ sym counted-place)
-      ∙ entered-in counted entry k (rw (entry-length kind w named (inUse d) (plan .few)) h) (rw (counted-place, length-counted) (omega (arith, entry-inside (plan .desk) (plan .room))))
+  last-word k h = ap (λ (at : ℕ). getD after (at + k) 0) rewritten-last ∙ entry-word k h
 
   pub last-kind : lastKind after ≡ kind
   unfolding lastKind rewritingEntry

@@ -1,8 +1,8 @@
--- Any run of calls after an accepted load. A desk that calls have made is the load, or an accepted decision or rewriting on a desk that calls have made;
--- taking back its last step gives the desk before it again, and a refused call the desk itself. So each call leads from a made desk to a made desk,
--- and what a made desk is known by (well formed, clean, weights as on the table, the load followed by its standing steps) holds after every run.
+-- Any run of calls after an accepted load. A desk reached by calls is the load, or an accepted decision or rewriting on a desk so reached;
+-- taking back its last step gives the desk before it again, and a refused call the desk itself. So each call leads from a reached desk to a reached desk,
+-- and what a reached desk is known by (well formed, clean, weights as at the start, the load followed by its standing steps) holds after every run.
 use Prim.Native.Nat.{ℕ, suc, _+_, _≤_}
-use mathlib.Core.Path.{_≡_, refl, sym, ap, _∙_, subst₂}
+use mathlib.Core.Path.{_≡_, refl, sym, ap, _∙_, subst, subst₂}
 use mathlib.Core.Bool.{Bool, true, false, not}
 use mathlib.Core.List.{List, [], _∷_, _++_}
 use native.Mathlib.Numerals.{add-one}
@@ -10,6 +10,7 @@ use native.Mathlib.Omega.{arith}
 use lib.Dec.{leb, ltb}
 use lib.ListN.{getD, length, replicate, length-append}
 use lib.IntN.{ℤ}
+use Rattle.masks.proofs.Choice.{impossible}
 use Rattle.rules.specs.declared.Refusal.{Refusal}
 use Rattle.rules.specs.declared.Refusal.the-variants.{BadDesk, TooManySteps, BadLiteral, BadNaming, BadFit, DeskFull, NothingStands}
 use Rattle.rules.specs.declared.Judged.{Judged}
@@ -17,33 +18,46 @@ use Rattle.rules.specs.declared.Judged.the-variants.{Fine, Refused}
 use Rattle.rules.specs.Refusals.{refuse}
 use Rattle.rules.specs.Table.{weighs}
 use Rattle.rules.specs.Desk.{deskWords, mostSteps, inUse, capacity, standing, wellFormed, loadWhy, loadStep, deskWeighs, keeps}
-use Rattle.rules.specs.Decide.{badLiteral, decideWhy, decideStep}
-use Rattle.rules.specs.Rewrite.{stored, given, wellNamed, wellFitted, rewriteWhy, rewriteStep}
-use Rattle.rules.specs.TakeBack.{takeBackWhy, takeBackStep}
-use Rattle.rules.specs.Calls.{Call, decide, rewrite, takeBack, callWhy, callStep, unlessRefused, afterCall, afterCalls}
+use Rattle.rules.specs.Decide.{badLiteral, decideWhy, decideStep, decideDesk}
+use Rattle.rules.specs.Rewrite.{stored, given, wellNamed, wellFitted, rewriteWhy, rewriteStep, rewriteDesk}
+use Rattle.rules.specs.TakeBack.{takeBackWhy, takeBackStep, takeBackDesk}
+use Rattle.rules.specs.Calls.{Call, decide, rewrite, takeBack, callWhy, unlessRefused, afterCall, afterCalls}
 use Rattle.step_laws.specs.Clean.{Clean}
 use Rattle.step_laws.specs.Framed.{Framed}
-use Rattle.step_laws.specs.Standing.{withoutLast, stands, standingFrom, standingCalls, AllFine, NeverTen}
+use Rattle.step_laws.specs.Standing.{withoutLast, standingAfter, standingFrom, standingCalls, AllFine, NeverTen}
 use Rattle.step_laws.proofs.Loads.{load-fine, loaded-capacity, loaded-past}
 use Rattle.step_laws.proofs.Frames.{framed-same, framed-then, decide-framed, rewrite-framed}
-use Rattle.step_laws.proofs.Steps.{load-formed, load-clean, load-weighs, load-rest, decide-undone, decide-standing, decide-formed, decide-clean, decide-weighs, decide-keeps, rewrite-undone, rewrite-standing, rewrite-formed, rewrite-clean, rewrite-weighs, rewrite-keeps}
+use Rattle.step_laws.proofs.Steps.{load-formed, load-clean, load-weighs, load-rest, decide-undone, decide-standing, decide-formed}
+use Rattle.step_laws.proofs.Steps.{decide-clean, decide-weighs, decide-keeps, rewrite-undone, rewrite-standing, rewrite-formed, rewrite-clean}
+use Rattle.step_laws.proofs.Steps.{rewrite-weighs, rewrite-keeps}
 
--- a desk that calls have made, with the steps that stand on it
-pub data Made (start : List ℕ) : List ℕ → List Call → Type 0 where
-  laid-out : Made start start []
-  deciding : {d : List ℕ} {calls : List Call} → Made start d calls → (l : ℤ) → decideWhy d l ≡ Fine → Made start (decideStep d l) (calls ++ (decide l ∷ []))
-  rewriting : {d : List ℕ} {calls : List Call} → Made start d calls → (kind : ℕ) (named : List ℕ) → rewriteWhy d kind named ≡ Fine
-      → Made start (rewriteStep d kind named) (calls ++ (rewrite kind named ∷ []))
+-- a desk reached by calls, with the steps that stand on it
+pub data Reached (start : List ℕ) : List ℕ → List Call → Type 0 where
+  laid-out : Reached start start []
+  deciding : {d : List ℕ} {calls : List Call} → Reached start d calls → (l : ℤ) → decideWhy d l ≡ Fine
+      → Reached start (decideStep d l) (calls ++ (decide l ∷ []))
+  rewriting : {d : List ℕ} {calls : List Call} → Reached start d calls → (kind : ℕ) (named : List ℕ) → rewriteWhy d kind named ≡ Fine
+      → Reached start (rewriteStep d kind named) (calls ++ (rewrite kind named ∷ []))
 
 -- ---- calls in order
 
+abbrev pub callStep : List ℕ → Call → List ℕ
+callStep d (decide l) = decideStep d l
+callStep d (rewrite kind named) = rewriteStep d kind named
+callStep d takeBack = takeBackStep d
+
+-- a call's words are its step's, unless it is refused
+by-step : (d : List ℕ) (call : Call) → afterCall d call ≡ unlessRefused (callWhy d call) (callStep d call) d
+unfolding afterCall decideDesk rewriteDesk takeBackDesk
+by-step d (decide l) = refl
+by-step d (rewrite kind named) = refl
+by-step d takeBack = refl
+
 pub after-fine : (d : List ℕ) (call : Call) → callWhy d call ≡ Fine → afterCall d call ≡ callStep d call
-unfolding afterCall
-after-fine d call e = rw e
+after-fine d call e = by-step d call ∙ rw e
 
 pub after-refused : (d : List ℕ) (call : Call) (r : Refusal) → callWhy d call ≡ Refused r → afterCall d call ≡ d
-unfolding afterCall
-after-refused d call r e = rw e
+after-refused d call r e = by-step d call ∙ rw e
 
 pub calls-append : (d : List ℕ) (xs ys : List Call) → afterCalls d (xs ++ ys) ≡ afterCalls (afterCalls d xs) ys
 unfolding afterCalls
@@ -55,23 +69,25 @@ last-off [] x = refl
 last-off (y ∷ []) x = refl
 last-off (y ∷ z ∷ l) x = ap (λ (k : List Call). y ∷ k) (last-off (z ∷ l) x)
 
--- ---- what a made desk is known by
+-- ---- what a reached desk is known by
 
-pub record Known (start table d : List ℕ) (calls : List Call) : Type 0 where
+pub record Known (start : List ℕ) (weight : ℕ → ℕ) (d : List ℕ) (calls : List Call) : Type 0 where
   pub formed : wellFormed d ≡ true
   pub clean : Clean d
-  pub weights : (reading : ℕ) → keeps d reading ≡ true → deskWeighs d reading ≡ weighs table reading
+  pub weights : (reading : ℕ) → keeps d reading ≡ true → deskWeighs d reading ≡ weight reading
   pub replayed : d ≡ afterCalls start calls
   pub framed : Framed start d
 
-one-more : (start d : List ℕ) (calls : List Call) (call : Call) → d ≡ afterCalls start calls → callWhy d call ≡ Fine → callStep d call ≡ afterCalls start (calls ++ (call ∷ []))
+one-more : (start d : List ℕ) (calls : List Call) (call : Call) → d ≡ afterCalls start calls → callWhy d call ≡ Fine
+    → callStep d call ≡ afterCalls start (calls ++ (call ∷ []))
 one-more start d calls call e fine =
     sym (after-fine d call fine) ∙ ap (λ (x : List ℕ). afterCall x call) e ∙ sym (calls-append start calls (call ∷ []) ∙ (unfold afterCalls in refl))
 
-pub known : (start table : List ℕ) → Known start table start [] → {d : List ℕ} {calls : List Call} → Made start d calls → Known start table d calls
-known start table k laid-out = k
-known start table k (deciding {d} {calls} m l fine) =
-    let before = known start table k m in
+pub known : (start : List ℕ) (weight : ℕ → ℕ) → Known start weight start [] → {d : List ℕ} {calls : List Call} → Reached start d calls
+    → Known start weight d calls
+known start weight k laid-out = k
+known start weight k (deciding {d} {calls} m l fine) =
+    let before = known start weight k m in
     record {
       formed = decide-formed d l fine;
       clean = decide-clean d l fine (before .clean);
@@ -79,8 +95,8 @@ known start table k (deciding {d} {calls} m l fine) =
       replayed = one-more start d calls (decide l) (before .replayed) fine;
       framed = framed-then (before .framed) (decide-framed d l fine);
     }
-known start table k (rewriting {d} {calls} m kind named fine) =
-    let before = known start table k m in
+known start weight k (rewriting {d} {calls} m kind named fine) =
+    let before = known start weight k m in
     record {
       formed = rewrite-formed d kind named fine;
       clean = rewrite-clean d kind named fine (before .clean);
@@ -98,13 +114,13 @@ neither-ten true r after h k e = h (cc)
 neither-ten false r after h k e = k e
 
 fine-not-ten : Fine ≡ Refused BadDesk → ⊥
-fine-not-ten e = let z : _≡_ {A = ℕ} 0 1 = cc in omega arith
+fine-not-ten e = impossible (cc)
 
 pub never-decide : (d : List ℕ) (l : ℤ) → wellFormed d ≡ true → decideWhy d l ≡ Refused BadDesk → ⊥
 unfolding decideWhy
 never-decide d l w e =
-    neither-ten (leb mostSteps (standing d)) TooManySteps (refuse (badLiteral d l) BadLiteral Fine) (λ q. let z : _≡_ {A = ℕ} 0 1 = cc in omega arith)
-    (neither-ten (badLiteral d l) BadLiteral Fine (λ q. let z : _≡_ {A = ℕ} 0 1 = cc in omega arith) fine-not-ten)
+    neither-ten (leb mostSteps (standing d)) TooManySteps (refuse (badLiteral d l) BadLiteral Fine) (λ q. impossible (cc))
+    (neither-ten (badLiteral d l) BadLiteral Fine (λ q. impossible (cc)) fine-not-ten)
     (rw w at e)
 
 pub never-rewrite : (d : List ℕ) (kind : ℕ) (named : List ℕ) → wellFormed d ≡ true → rewriteWhy d kind named ≡ Refused BadDesk → ⊥
@@ -113,30 +129,31 @@ never-rewrite d kind named w e =
     let full : Bool = ltb (capacity d) (inUse d + length (stored (given d kind named))) in
     let last : Judged = refuse full DeskFull Fine in
     let fit : Judged = refuse (not (wellFitted d kind named)) BadFit last in
-    neither-ten (leb mostSteps (standing d)) TooManySteps (refuse (not (wellNamed d kind named)) BadNaming fit) (λ q. let z : _≡_ {A = ℕ} 0 1 = cc in omega arith)
-    (neither-ten (not (wellNamed d kind named)) BadNaming fit (λ q. let z : _≡_ {A = ℕ} 0 1 = cc in omega arith)
-    (neither-ten (not (wellFitted d kind named)) BadFit last (λ q. let z : _≡_ {A = ℕ} 0 1 = cc in omega arith)
-    (neither-ten full DeskFull Fine (λ q. let z : _≡_ {A = ℕ} 0 1 = cc in omega arith) fine-not-ten)))
+    neither-ten (leb mostSteps (standing d)) TooManySteps (refuse (not (wellNamed d kind named)) BadNaming fit) (λ q. impossible (cc))
+    (neither-ten (not (wellNamed d kind named)) BadNaming fit (λ q. impossible (cc))
+    (neither-ten (not (wellFitted d kind named)) BadFit last (λ q. impossible (cc))
+    (neither-ten full DeskFull Fine (λ q. impossible (cc)) fine-not-ten)))
     (rw w at e)
 
--- ---- each call, from a made desk to a made desk
+-- ---- each call, from a reached desk to a reached desk
 
-module _ (start table : List ℕ) (base : Known start table start []) (nothing : standing start ≡ 0) where
+module _ (start : List ℕ) (weight : ℕ → ℕ) (base : Known start weight start []) (nothing : standing start ≡ 0) where
   -- where no step stands there is nothing to take back
   start-refuses : takeBackWhy start ≡ Refused NothingStands
   unfolding takeBackWhy
   start-refuses = rw (base .formed, nothing)
 
   -- a step that stands can be taken back, and its desk is as before
-  pub taken-back : {d : List ℕ} {calls : List Call} → Made start d calls → takeBackWhy d ≡ Fine → Made start (takeBackStep d) (withoutLast calls)
-  taken-back laid-out e = let z : _≡_ {A = ℕ} 0 1 = cc (start-refuses) in absurd (omega arith)
+  pub taken-back : {d : List ℕ} {calls : List Call} → Reached start d calls → takeBackWhy d ≡ Fine → Reached start (takeBackStep d) (withoutLast calls)
+  taken-back laid-out e = impossible (cc (start-refuses))
   taken-back (deciding {d} {calls} m l fine) e =
-      subst₂ (Made start) (sym (decide-undone d l fine (known start table base m .clean) .1)) (sym (last-off calls (decide l))) m
+      subst₂ (Reached start) (sym (decide-undone d l fine (known start weight base m .clean) .1)) (sym (last-off calls (decide l))) m
   taken-back (rewriting {d} {calls} m kind named fine) e =
-      subst₂ (Made start) (sym (rewrite-undone d kind named fine (known start table base m .clean) .1)) (sym (last-off calls (rewrite kind named))) m
+      subst₂ (Reached start) (sym (rewrite-undone d kind named fine (known start weight base m .clean) .1)) (sym (last-off calls (rewrite kind named))) m
 
   -- whatever a call's judgement is
-  judged : {d : List ℕ} {calls : List Call} → Made start d calls → (call : Call) (j : Judged) → callWhy d call ≡ j → Made start (unlessRefused j (callStep d call) d) (stands j call calls)
+  judged : {d : List ℕ} {calls : List Call} → Reached start d calls → (call : Call) (j : Judged) → callWhy d call ≡ j
+      → Reached start (unlessRefused j (callStep d call) d) (standingAfter j call calls)
   judged m (decide l) Fine e = deciding m l e
   judged m (rewrite kind named) Fine e = rewriting m kind named e
   judged m takeBack Fine e = taken-back m e
@@ -144,67 +161,71 @@ module _ (start table : List ℕ) (base : Known start table start []) (nothing :
   judged m (rewrite kind named) (Refused r) e = m
   judged m takeBack (Refused r) e = m
 
-  pub called : {d : List ℕ} {calls : List Call} → Made start d calls → (call : Call) → Made start (afterCall d call) (stands (callWhy d call) call calls)
-  unfolding afterCall
-  called {d} m call = judged m call (callWhy d call) refl
+  pub called : {d : List ℕ} {calls : List Call} → Reached start d calls → (call : Call)
+      → Reached start (afterCall d call) (standingAfter (callWhy d call) call calls)
+  called {d} {calls} m call =
+      subst (λ (e : List ℕ). Reached start e (standingAfter (callWhy d call) call calls)) (sym (by-step d call)) (judged m call (callWhy d call) refl)
 
   -- ---- never a 10
 
-  never-back : {d : List ℕ} {calls : List Call} → Made start d calls → takeBackWhy d ≡ Refused BadDesk → ⊥
-  never-back laid-out e = let z : _≡_ {A = ℕ} 0 1 = cc (start-refuses) in omega arith
-  never-back (deciding {d} m l fine) e = let z : _≡_ {A = ℕ} 0 1 = cc (decide-undone d l fine (known start table base m .clean) .0) in omega arith
-  never-back (rewriting {d} m kind named fine) e = let z : _≡_ {A = ℕ} 0 1 = cc (rewrite-undone d kind named fine (known start table base m .clean) .0) in omega arith
+  never-back : {d : List ℕ} {calls : List Call} → Reached start d calls → takeBackWhy d ≡ Refused BadDesk → ⊥
+  never-back laid-out e = impossible (cc (start-refuses))
+  never-back (deciding {d} m l fine) e = impossible (cc (decide-undone d l fine (known start weight base m .clean) .0))
+  never-back (rewriting {d} m kind named fine) e = impossible (cc (rewrite-undone d kind named fine (known start weight base m .clean) .0))
 
-  pub never-ten : {d : List ℕ} {calls : List Call} → Made start d calls → (call : Call) → callWhy d call ≡ Refused BadDesk → ⊥
-  never-ten {d} m (decide l) e = never-decide d l (known start table base m .formed) e
-  never-ten {d} m (rewrite kind named) e = never-rewrite d kind named (known start table base m .formed) e
+  pub never-ten : {d : List ℕ} {calls : List Call} → Reached start d calls → (call : Call) → callWhy d call ≡ Refused BadDesk → ⊥
+  never-ten {d} m (decide l) e = never-decide d l (known start weight base m .formed) e
+  never-ten {d} m (rewrite kind named) e = never-rewrite d kind named (known start weight base m .formed) e
   never-ten m takeBack e = never-back m e
 
   -- ---- any run
 
-  pub run : (calls : List Call) {d : List ℕ} {before : List Call} → Made start d before → Made start (afterCalls d calls) (standingFrom d before calls)
+  pub run : (calls : List Call) {d : List ℕ} {before : List Call} → Reached start d before → Reached start (afterCalls d calls) (standingFrom d before calls)
   unfolding afterCalls standingFrom
   run [] m = m
   run (call ∷ calls) m = run calls (called m call)
 
-  pub run-never : (calls : List Call) {d : List ℕ} {before : List Call} → Made start d before → NeverTen d calls
+  pub run-never : (calls : List Call) {d : List ℕ} {before : List Call} → Reached start d before → NeverTen d calls
   run-never [] m = tt
   run-never (call ∷ calls) m = (never-ten m call, run-never calls (called m call))
 
 -- ---- what stands can be made again, and taken back
 
-module _ (start table : List ℕ) (base : Known start table start []) where
+module _ (start : List ℕ) (weight : ℕ → ℕ) (base : Known start weight start []) where
   one-more-fine : (d : List ℕ) (calls : List Call) (call : Call) → AllFine d calls → callWhy (afterCalls d calls) call ≡ Fine → AllFine d (calls ++ (call ∷ []))
   unfolding afterCalls
   one-more-fine d [] call a e = (e, tt)
   one-more-fine d (x ∷ calls) call a e = (a .0, one-more-fine (afterCall d x) calls call (a .1) e)
 
-  pub made-again : {d : List ℕ} {calls : List Call} → Made start d calls → AllFine start calls
+  pub made-again : {d : List ℕ} {calls : List Call} → Reached start d calls → AllFine start calls
   made-again laid-out = tt
-  made-again (deciding {d} {calls} m l fine) = one-more-fine start calls (decide l) (made-again m) (rw (← known start table base m .replayed) fine)
-  made-again (rewriting {d} {calls} m kind named fine) = one-more-fine start calls (rewrite kind named) (made-again m) (rw (← known start table base m .replayed) fine)
+  made-again (deciding {d} {calls} m l fine) = one-more-fine start calls (decide l) (made-again m) (rw (← known start weight base m .replayed) fine)
+  made-again (rewriting {d} {calls} m kind named fine) =
+      one-more-fine start calls (rewrite kind named) (made-again m) (rw (← known start weight base m .replayed) fine)
 
-  pub made-standing : standing start ≡ 0 → {d : List ℕ} {calls : List Call} → Made start d calls → standing d ≡ length calls
+  pub made-standing : standing start ≡ 0 → {d : List ℕ} {calls : List Call} → Reached start d calls → standing d ≡ length calls
   made-standing z laid-out = z
   made-standing z (deciding {d} {calls} m l fine) = decide-standing d l fine ∙ omega (arith, made-standing z m, length-append calls (decide l ∷ []))
-  made-standing z (rewriting {d} {calls} m kind named fine) = rewrite-standing d kind named fine ∙ omega (arith, made-standing z m, length-append calls (rewrite kind named ∷ []))
+  made-standing z (rewriting {d} {calls} m kind named fine) =
+      rewrite-standing d kind named fine ∙ omega (arith, made-standing z m, length-append calls (rewrite kind named ∷ []))
 
   -- a taking back for each standing step
-  unwind : (d e : List ℕ) (calls : List Call) (call : Call) → takeBackWhy e ≡ Fine → takeBackStep e ≡ d → afterCalls d (replicate (length calls) takeBack) ≡ start
+  unwind : (d e : List ℕ) (calls : List Call) (call : Call) → takeBackWhy e ≡ Fine → takeBackStep e ≡ d
+      → afterCalls d (replicate (length calls) takeBack) ≡ start
       → afterCalls e (replicate (length (calls ++ (call ∷ []))) takeBack) ≡ start
   unfolding afterCalls
   unwind d e calls call fine back ih =
       let n : length (calls ++ (call ∷ [])) ≡ suc (length calls) = length-append calls (call ∷ []) ∙ add-one (length calls) in
       rw n (ap (λ (x : List ℕ). afterCalls x (replicate (length calls) takeBack)) (after-fine e takeBack fine ∙ back) ∙ ih)
 
-  pub unwound : {d : List ℕ} {calls : List Call} → Made start d calls → afterCalls d (replicate (length calls) takeBack) ≡ start
+  pub unwound : {d : List ℕ} {calls : List Call} → Reached start d calls → afterCalls d (replicate (length calls) takeBack) ≡ start
   unfolding afterCalls
   unwound laid-out = refl
   unwound (deciding {d} {calls} m l fine) =
-      let u = decide-undone d l fine (known start table base m .clean) in
+      let u = decide-undone d l fine (known start weight base m .clean) in
       unwind d (decideStep d l) calls (decide l) (u .0) (u .1) (unwound m)
   unwound (rewriting {d} {calls} m kind named fine) =
-      let u = rewrite-undone d kind named fine (known start table base m .clean) in
+      let u = rewrite-undone d kind named fine (known start weight base m .clean) in
       unwind d (rewriteStep d kind named) calls (rewrite kind named) (u .0) (u .1) (unwound m)
 
 -- ---- demand 3, for every accepted load and every run of calls
@@ -213,7 +234,7 @@ module _ (n : ℕ) (table : List ℕ) (c : ℕ) (d : List ℕ) (fine : loadWhy n
   abbrev start : List ℕ
   start = loadStep n table c d
 
-  base : Known start table start []
+  base : Known start (weighs table) start []
   unfolding afterCalls
   base =
       record {
@@ -224,12 +245,12 @@ module _ (n : ℕ) (table : List ℕ) (c : ℕ) (d : List ℕ) (fine : loadWhy n
         framed = framed-same start;
       }
 
-  pub made : Made start (afterCalls start calls) (standingCalls start calls)
+  pub made : Reached start (afterCalls start calls) (standingCalls start calls)
   unfolding standingCalls
-  made = run start table base (load-rest n table c d fine .0) calls laid-out
+  made = run start (weighs table) base (load-rest n table c d fine .0) calls laid-out
 
-  result : Known start table (afterCalls start calls) (standingCalls start calls)
-  result = known start table base made
+  result : Known start (weighs table) (afterCalls start calls) (standingCalls start calls)
+  result = known start (weighs table) base made
 
   -- a reading that keeps the decisions weighs on the desk what it weighs on the table
   pub run-weighs : (reading : ℕ) → keeps (afterCalls start calls) reading ≡ true → deskWeighs (afterCalls start calls) reading ≡ weighs table reading
@@ -241,18 +262,18 @@ module _ (n : ℕ) (table : List ℕ) (c : ℕ) (d : List ℕ) (fine : loadWhy n
 
   -- and each of these is accepted where it is made again
   pub run-accepted : AllFine start (standingCalls start calls)
-  run-accepted = made-again start table base made
+  run-accepted = made-again start (weighs table) base made
 
   pub run-standing : standing (afterCalls start calls) ≡ length (standingCalls start calls)
-  run-standing = made-standing start table base (load-rest n table c d fine .0) made
+  run-standing = made-standing start (weighs table) base (load-rest n table c d fine .0) made
 
   -- taking back every standing step restores the load, word for word
   pub run-unwinds : afterCalls (afterCalls start calls) (replicate (standing (afterCalls start calls)) takeBack) ≡ start
-  run-unwinds = rw run-standing (unwound start table base made)
+  run-unwinds = rw run-standing (unwound start (weighs table) base made)
 
   -- no call was refused with 10
   pub run-never-ten : NeverTen start calls
-  run-never-ten = run-never start table base (load-rest n table c d fine .0) calls laid-out
+  run-never-ten = run-never start (weighs table) base (load-rest n table c d fine .0) calls laid-out
 
   pub run-formed : wellFormed (afterCalls start calls) ≡ true
   run-formed = result .formed

@@ -20,10 +20,10 @@ use Rattle.literals.specs.declared.Lits.{Lits}
 use Rattle.literals.specs.Lits.{noLits, negatedLits, together, less, variablesOf, isEmpty, sameLits, isOne}
 use Rattle.literals.proofs.TwoMasks.{Held, same-eq, empty-masks, masks-empty, empty-none}
 use Rattle.rules.specs.Rewrite.{shows, apartFrom, stored, empties}
-use Rattle.step_laws.proofs.Formed.{Sound}
-use Rattle.step_laws.proofs.Weights.{missed}
+use Rattle.desk_laws.proofs.Formed.{Sound}
+use Rattle.desk_laws.proofs.Weights.{missed}
 use Rattle.step_laws.proofs.Balance.{total}
-use Rattle.step_laws.proofs.Readings.{holds-none}
+use Rattle.desk_laws.proofs.Readings.{holds-none}
 
 -- ---- sound sets
 

@@ -15,9 +15,9 @@ use Rattle.rules.specs.Rewrite.{remnantOf, given, stored, empties, lightest, re
 use Rattle.rules.specs.TakeBack.{takeBackWhy, takeBackStep}
 use Rattle.step_laws.specs.Clean.{Clean}
 use Rattle.step_laws.specs.StepTable.{Fits}
-use Rattle.step_laws.proofs.Formed.{well, head-inside}
-use Rattle.step_laws.proofs.Verdicts.{decide-fine, rewrite-fine}
-use Rattle.step_laws.proofs.Weights.{missed, weighs-measured}
+use Rattle.desk_laws.proofs.Formed.{well, head-inside}
+use Rattle.desk_laws.proofs.Verdicts.{decide-fine, rewrite-fine}
+use Rattle.desk_laws.proofs.Weights.{missed, weighs-measured}
 use Rattle.step_laws.proofs.Rewritings.{step-rewritten, rewritten-head, rewritten-standing}
 use Rattle.step_laws.proofs.Decisions.{decided-standing}
 use Rattle.step_laws.proofs.DecisionKept.{decision-undone, decision-fine, decided-formed, decided-clean, decided-measured, keeps-facts, kept-before}
@@ -37,7 +37,8 @@ module _ (n : ℕ) (table : List ℕ) (c : ℕ) (d : List ℕ) (fine : loadWhy n
   pub load-weighs : (reading : ℕ) → deskWeighs (loadStep n table c d) reading ≡ weighs table reading
   load-weighs = loaded-weighs n table c d (load-fine n table c d fine)
 
-  pub load-rest : (standing (loadStep n table c d) ≡ 0) × (conceded (loadStep n table c d) ≡ 0) × (decided (loadStep n table c d) ≡ 0) × (truths (loadStep n table c d) ≡ 0)
+  pub load-rest : (standing (loadStep n table c d) ≡ 0) × (conceded (loadStep n table c d) ≡ 0) × (decided (loadStep n table c d) ≡ 0) × (truths
+      (loadStep n table c d) ≡ 0)
   load-rest = loaded-rest n table c d (load-fine n table c d fine)
 
 -- ---- decide
@@ -74,14 +75,16 @@ module _ (d : List ℕ) (kind : ℕ) (named : List ℕ) (fine : rewriteWhy d kin
   pub rewrite-standing : standing (rewriteStep d kind named) ≡ standing d + 1
   rewrite-standing =
       let w : ℕ = lightest d named in
-      rw (step-rewritten d kind named) (rewritten-standing d kind w named (stored (given d kind named)) (w * empties (given d kind named)) (plan d kind named (rewrite-fine d kind named fine)))
+      rw (step-rewritten d kind named)
+      (rewritten-standing d kind w named (stored (given d kind named)) (w * empties (given d kind named)) (plan d kind named (rewrite-fine d kind named fine)))
 
   -- its remnants fit, in document 01's words, and what it gives is what the step table says
   pub rewrite-in-words : Fits (remnantOf d named) kind (length named) (given d kind named)
   unfolding given
   rewrite-in-words =
       let ok = rewrite-fine d kind named fine in
-      fit-words (variables d) (ok .desk .named) (remnantOf d named) kind (length named) (ok .known .0) (ok .known .1) (ok .counted) (remnants-sound d kind named ok) (ok .fitted)
+      fit-words (variables d) (ok .desk .named) (remnantOf d named) kind (length named) (ok .known .0) (ok .known .1) (ok .counted)
+      (remnants-sound d kind named ok) (ok .fitted)
 
   -- conceded plus all weights in use does not grow
   pub rewrite-no-heavier : weightOn (rewriteStep d kind named) ≤ weightOn d
@@ -97,7 +100,8 @@ module _ (d : List ℕ) (kind : ℕ) (named : List ℕ) (fine : rewriteWhy d kin
   pub rewrite-weighs : (reading : ℕ) → keeps d reading ≡ true → deskWeighs (rewriteStep d kind named) reading ≡ deskWeighs d reading
   rewrite-weighs reading k =
       rw (step-rewritten d kind named)
-      (weighs-measured _ reading ∙ weights-kept d kind named (rewrite-fine d kind named fine) reading (keeps-facts d reading k .agrees) ∙ sym (weighs-measured d reading))
+      (weighs-measured _ reading ∙ weights-kept d kind named (rewrite-fine d kind named fine) reading (keeps-facts d reading k .agrees)
+      ∙ sym (weighs-measured d reading))
 
   pub rewrite-keeps : (reading : ℕ) → keeps (rewriteStep d kind named) reading ≡ keeps d reading
   unfolding keeps

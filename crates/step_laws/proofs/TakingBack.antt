@@ -12,7 +12,7 @@ use lib.Dec.{eqb, ltb}
 use lib.ListN.{getD}
 use Rattle.masks.specs.Masks.{single}
 use Rattle.masks.specs.Sums.{every}
-use Rattle.masks.proofs.Choice.{cases, and-right, or-cases}
+use Rattle.masks.proofs.Choice.{cases, and-right, or-cases, or-none}
 use Rattle.masks.proofs.Sums.{every-at}
 use Rattle.rules.specs.declared.Refusal.the-variants.{BadDesk, NothingStands}
 use Rattle.rules.specs.declared.Judged.the-variants.{Fine}
@@ -20,11 +20,12 @@ use Rattle.rules.specs.Refusals.{refuse}
 use Rattle.rules.specs.Table.{mostWeight}
 use Rattle.rules.specs.Desk.{headWords, inUse, capacity, standing, conceded, loaded, weightOn, weightFits, wellFormed}
 use Rattle.rules.specs.Rewrite.{fewest, fewerAdded, countFits, distinct}
-use Rattle.rules.specs.TakeBack.{lastKind, lastVariable, lastWeight, lastCount, lastNamed, lastFirst, mergedEmpty, lastConceded, undoDecision, undoRewriting, takeBackStep, badDecision, badRewriting, badLast, takeBackWhy}
+use Rattle.rules.specs.TakeBack.{lastKind, lastVariable, lastWeight, lastCount, lastNamed, lastFirst, mergedEmpty, lastConceded, undoDecision}
+use Rattle.rules.specs.TakeBack.{undoRewriting, takeBackStep, badDecision, badRewriting, badLast, takeBackWhy}
 use Rattle.step_laws.specs.Clean.{Clean}
 use Rattle.step_laws.specs.Framed.{Framed}
-use Rattle.step_laws.proofs.Formed.{neither, head-inside, Formed, formed, well}
-use Rattle.step_laws.proofs.Verdicts.{past}
+use Rattle.desk_laws.proofs.Formed.{head-inside, Formed, formed, well}
+use Rattle.rules.proofs.Judging.{refuse-fine}
 use Rattle.step_laws.proofs.ByKind.{by-kind, counted}
 use Rattle.step_laws.proofs.Undoing.{unset, unset-out, emptied, emptied-use, emptied-head}
 use Rattle.step_laws.proofs.Frames.{framed-then, withdrawn-framed, unset-framed, emptied-framed}
@@ -39,12 +40,12 @@ pub record Taken (d : List ℕ) : Type 0 where
 pub take-back-fine : (d : List ℕ) → takeBackWhy d ≡ Fine → Taken d
 unfolding takeBackWhy
 take-back-fine d e =
-    let a = past (not (wellFormed d)) BadDesk (refuse (eqb (standing d) 0) NothingStands (refuse (badLast d) BadDesk Fine)) e in
-    let b = past (eqb (standing d) 0) NothingStands (refuse (badLast d) BadDesk Fine) (a .1) in
+    let a = refuse-fine (not (wellFormed d)) BadDesk (refuse (eqb (standing d) 0) NothingStands (refuse (badLast d) BadDesk Fine)) e in
+    let b = refuse-fine (eqb (standing d) 0) NothingStands (refuse (badLast d) BadDesk Fine) (a .1) in
     record {
       desk = formed d (not-false (wellFormed d) (a .0));
       some = omega (arith, eqb-false (standing d) 0 (b .0));
-      entry = past (badLast d) BadDesk Fine (b .1) .0;
+      entry = refuse-fine (badLast d) BadDesk Fine (b .1) .0;
     }
 
 -- a rewriting's entry that is not bad
@@ -70,14 +71,16 @@ entry-fine d low high e =
     let none-added : Bool = eqb (lastKind d) 1 && eqb (inUse d) (lastFirst d) in
     let t5 : Bool = ltb (conceded d) (lastConceded d) in
     let t6 : Bool = weightFits (undoRewriting d) in
-    let a = neither (not t1) (not (once && in-order) || (t3 || (not (right || none-added) || (t5 || not t6)))) e in
-    let b = neither (not (once && in-order)) (t3 || (not (right || none-added) || (t5 || not t6))) (a .1) in
-    let c = neither t3 (not (right || none-added) || (t5 || not t6)) (b .1) in
-    let g = neither (not (right || none-added)) (t5 || not t6) (c .1) in
-    let h = neither t5 (not t6) (g .1) in
+    let a = or-none (not t1) (not (once && in-order) || (t3 || (not (right || none-added) || (t5 || not t6)))) e in
+    let b = or-none (not (once && in-order)) (t3 || (not (right || none-added) || (t5 || not t6))) (a .1) in
+    let c = or-none t3 (not (right || none-added) || (t5 || not t6)) (b .1) in
+    let g = or-none (not (right || none-added)) (t5 || not t6) (c .1) in
+    let h = or-none t5 (not t6) (g .1) in
     let enough = counted (lastKind d) (lastCount d) (not-false t1 (a .0)) in
     record {
-      below = λ i l. ltb-true (lastNamed d i) (lastFirst d) (every-at (lastCount d) (λ i. ltb (lastNamed d i) (lastFirst d)) (and-right once in-order (not-false (once && in-order) (b .0))) i l);
+      below =
+          λ i l. ltb-true (lastNamed d i) (lastFirst d)
+          (every-at (lastCount d) (λ i. ltb (lastNamed d i) (lastFirst d)) (and-right once in-order (not-false (once && in-order) (b .0))) i l);
       loads = ltb-false (lastFirst d) (loaded d) (c .0);
       fits =
           ⊎-elim
@@ -96,8 +99,12 @@ module _ (d : List ℕ) (clean : Clean d) (fine : takeBackWhy d ≡ Fine) where
   decision-kept t =
       let v : ℕ = single (lastVariable d - 1) in
       let e : List ℕ = unset d v in
-      let some : 1 ≤ standing e = rw (unset-out d v 3 (λ q. omega arith) (λ q. omega arith)) (t .some) in
-      (well (withdrawn-formed e (unset-formed d (t .desk) v) some), withdrawn-clean e (unset-formed d (t .desk) v) some (unset-clean d (t .desk) v clean), framed-then (unset-framed d v) (withdrawn-framed e (unset-formed d (t .desk) v) some))
+      let some : 1 ≤ standing e = rw (unset-out d v 3 (λ q. omega arith) (λ q. omega arith)) (t .some) in (
+        well (withdrawn-formed e (unset-formed d (t .desk) v) some),
+        withdrawn-clean e (unset-formed d (t .desk) v) some
+            (unset-clean d (t .desk) v clean),
+        framed-then (unset-framed d v) (withdrawn-framed e (unset-formed d (t .desk) v) some),
+      )
 
   rewriting-kept : Taken d → Entered d → Kept (undoRewriting d)
   unfolding undoRewriting weightFits
@@ -106,7 +113,8 @@ module _ (d : List ℕ) (clean : Clean d) (fine : takeBackWhy d ≡ Fine) where
       let w : ℕ = lastWeight d in
       let c : ℕ = conceded d - lastConceded d in
       let e : List ℕ = emptied d w (lastNamed d) (lastCount d) (lastFirst d) (inUse d - lastFirst d) c in
-      let head : (p : ℕ) → (p < headWords) × (p ≡ 1 → ⊥) × (p ≡ 4 → ⊥) → getD e p 0 ≡ getD d p 0 = emptied-head d w (lastNamed d) (lastCount d) (lastFirst d) (inUse d - lastFirst d) c in
+      let head : (p : ℕ) → (p < headWords) × (p ≡ 1 → ⊥) × (p ≡ 4 → ⊥) → getD e p 0 ≡ getD d p 0 =
+      emptied-head d w (lastNamed d) (lastCount d) (lastFirst d) (inUse d - lastFirst d) c in
       let some : 1 ≤ standing e = rw (head 3 (omega arith)) (t .some) in
       let cap : capacity e ≡ capacity d = head 2 (omega arith) in
       let rows : inUse e ≡ lastFirst d = emptied-use d w (lastNamed d) (lastCount d) (lastFirst d) (inUse d - lastFirst d) c (head-inside f) in
@@ -122,7 +130,7 @@ module _ (d : List ℕ) (clean : Clean d) (fine : takeBackWhy d ≡ Fine) where
   unfolding takeBackStep badLast
   kept =
       let t = take-back-fine d fine in
-      let parts = neither (ltb 4 (lastKind d)) (cond (eqb (lastKind d) 0) (badDecision d) (badRewriting d)) (t .entry) in
+      let parts = or-none (ltb 4 (lastKind d)) (cond (eqb (lastKind d) 0) (badDecision d) (badRewriting d)) (t .entry) in
       ⊎-elim
       (λ q. rw q (decision-kept t))
       (λ q.

@@ -1,6 +1,6 @@
 -- The words of a taking back but for the entry: a decision cleared, or rows freed and named rows' weights regained.
 -- Stated over any mask, any rows and any sums, so that the same laws serve a step just made and any desk at all.
-use Prim.Native.Nat.{ℕ, _+_, _*_, _≤_, _<_}
+use Prim.Native.Nat.{ℕ, suc, _+_, _*_, _≤_, _<_}
 use mathlib.Core.Path.{_≡_, ap, _∙_}
 use mathlib.Core.Logic.{inr}
 use mathlib.Core.List.{List}
@@ -11,10 +11,11 @@ use Rattle.masks.specs.Masks.{without}
 use Rattle.masks.specs.Words.{zeroed}
 use Rattle.masks.proofs.Words.{zeroed-before, zeroed-out, zeroed-in, length-zeroed}
 use Rattle.rules.specs.declared.Row.{Row}
+use Rattle.rules.specs.Table.{rowWords}
 use Rattle.rules.specs.Desk.{headWords, inUse, conceded, decided, truths, rowPlace, rowOn}
 use Rattle.rules.specs.Rewrite.{reweighed}
-use Rattle.step_laws.proofs.Formed.{place-mono}
-use Rattle.step_laws.proofs.Stores.{row-same, row-head, length-reweighed, reweighed-head, reweighed-lits}
+use Rattle.desk_laws.proofs.Formed.{place-mono}
+use Rattle.desk_laws.proofs.Stores.{row-same, row-head, length-reweighed, reweighed-head, reweighed-lits}
 
 -- ---- a decision cleared
 
@@ -49,13 +50,13 @@ module _ (d : List ℕ) (w : ℕ) (row : ℕ → ℕ) (k first m c : ℕ) where
 
   -- m rows from the first one on are zeroed
   abbrev pub freed : List ℕ
-  freed = zeroed regained (rowPlace first) (3 * m)
+  freed = zeroed regained (rowPlace first) (rowWords * m)
 
   abbrev pub emptied : List ℕ
   emptied = set (set freed 1 first) 4 c
 
   length-freed : length freed ≡ length d
-  length-freed = length-zeroed regained (rowPlace first) (3 * m) ∙ length-reweighed (λ x. x + w) row d k
+  length-freed = length-zeroed regained (rowPlace first) (rowWords * m) ∙ length-reweighed (λ x. x + w) row d k
 
   pub length-emptied : length emptied ≡ length d
   length-emptied = simp length-set length-freed
@@ -73,24 +74,24 @@ module _ (d : List ℕ) (w : ℕ) (row : ℕ → ℕ) (k first m c : ℕ) where
   pub emptied-freed : (p : ℕ) → rowPlace first ≤ p → p < rowPlace (first + m) → getD emptied p 0 ≡ 0
   unfolding rowPlace
   emptied-freed p h l =
-      emptied-out p (λ q. omega arith) (λ q. omega arith) ∙ zeroed-in regained (rowPlace first) (3 * m) p h (omega arith)
+      emptied-out p (λ q. omega arith) (λ q. omega arith) ∙ zeroed-in regained (rowPlace first) (rowWords * m) p h (omega arith)
 
   pub emptied-below : (p : ℕ) → (p ≡ 1 → ⊥) → (p ≡ 4 → ⊥) → p < rowPlace first → getD emptied p 0 ≡ getD regained p 0
-  emptied-below p a b h = emptied-out p a b ∙ zeroed-before regained (rowPlace first) (3 * m) p h
+  emptied-below p a b h = emptied-out p a b ∙ zeroed-before regained (rowPlace first) (rowWords * m) p h
 
   pub emptied-past : (p : ℕ) → rowPlace (first + m) ≤ p → getD emptied p 0 ≡ getD regained p 0
   unfolding rowPlace
   emptied-past p h =
-      emptied-out p (λ q. omega arith) (λ q. omega arith) ∙ zeroed-out regained (rowPlace first) (3 * m) p (inr (omega arith))
+      emptied-out p (λ q. omega arith) (λ q. omega arith) ∙ zeroed-out regained (rowPlace first) (rowWords * m) p (inr (omega arith))
 
   -- the other words of the head
   pub emptied-head : (p : ℕ) → (p < headWords) × (p ≡ 1 → ⊥) × (p ≡ 4 → ⊥) → getD emptied p 0 ≡ getD d p 0
   unfolding rowPlace
   emptied-head p o = emptied-below p (o .1) (o .2) (omega arith) ∙ reweighed-head (λ x. x + w) row d k p (o .0)
 
-  pub emptied-lits : (i : ℕ) → i < first → rowOn emptied i .lits ≡ rowOn d i .lits
-  emptied-lits i h =
+  pub emptied-lits : ((i : ℕ) → i < k → rowPlace (suc (row i)) ≤ length d) → (i : ℕ) → i < first → rowOn emptied i .lits ≡ rowOn d i .lits
+  emptied-lits inside i h =
       ap (λ (r : Row). r .lits)
       (row-head (set freed 1 first) 4 c i (omega arith) ∙ row-head freed 1 first i (omega arith)
-      ∙ row-same regained freed i (λ p a b. zeroed-before regained (rowPlace first) (3 * m) p (omega (arith, place-mono h))))
-      ∙ reweighed-lits (λ x. x + w) row d k i
+      ∙ row-same regained freed i (λ p a b. zeroed-before regained (rowPlace first) (rowWords * m) p (omega (arith, place-mono h))))
+      ∙ reweighed-lits (λ x. x + w) row d k inside i

@@ -14,15 +14,15 @@ withoutLast (x ∷ []) = []
 withoutLast (x ∷ y ∷ l) = x ∷ withoutLast (y ∷ l)
 
 -- the standing steps after a call, from those before it
-abbrev pub stands : Judged → Call → List Call → List Call
-stands (Refused r) call before = before
-stands Fine (decide l) before = before ++ (decide l ∷ [])
-stands Fine (rewrite kind named) before = before ++ (rewrite kind named ∷ [])
-stands Fine takeBack before = withoutLast before
+abbrev pub standingAfter : Judged → Call → List Call → List Call
+standingAfter (Refused r) call before = before
+standingAfter Fine (decide l) before = before ++ (decide l ∷ [])
+standingAfter Fine (rewrite kind named) before = before ++ (rewrite kind named ∷ [])
+standingAfter Fine takeBack before = withoutLast before
 
 unfoldable pub standingFrom : List ℕ → List Call → List Call → List Call
 standingFrom d before [] = before
-standingFrom d before (call ∷ calls) = standingFrom (afterCall d call) (stands (callWhy d call) call before) calls
+standingFrom d before (call ∷ calls) = standingFrom (afterCall d call) (standingAfter (callWhy d call) call before) calls
 
 -- on a desk where no step stands
 unfoldable pub standingCalls : List ℕ → List Call → List Call

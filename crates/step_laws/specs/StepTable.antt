@@ -2,13 +2,16 @@
 -- The definitions of `rules` find the literals out by recursion; that they say the same is a law of this crate.
 use Prim.Native.Nat.{ℕ, zero, suc, _+_, _≤_, _<_}
 use mathlib.Core.Path.{_≡_}
-use mathlib.Core.Bool.{true}
+use mathlib.Core.Bool.{true, false}
 use mathlib.Core.List.{List, [], _∷_, _++_}
 use lib.Bits.{bitAnd}
 use lib.IntN.{ℤ}
+use lib.ListN.{length, getD}
 use Rattle.literals.specs.declared.Lits.{Lits}
 use Rattle.literals.specs.Literal.{size, isLiteral, opposite, bitOf, litsOf}
 use Rattle.literals.specs.Lits.{noLits, together, variablesOf}
+use Rattle.rules.specs.Desk.{rowOn, decisions, satisfied, spent}
+use Rattle.rules.specs.Rewrite.{remnantOf}
 
 -- (a, b): "A remnant holds just the literals shown, each on a variable of its own"
 pub record Pair (r : Lits) (a b : ℤ) : Type 0 where
@@ -41,3 +44,9 @@ pub data Fits (f : ℕ → Lits) : ℕ → ℕ → List Lits → Type 0 where
       → Fits f 4 (k + 4) (noLits ∷ (between l k
       ++ (together (litsOf (l k)) (together (litsOf (opposite b)) (litsOf (opposite c)))
       ∷ together (litsOf (opposite (l k))) (together (litsOf b) (litsOf c)) ∷ [])))
+
+-- The named rows of a desk fit a line of the table, which gives these rows: none is spent or satisfied, and their remnants are the line's.
+pub record FitsALine (d : List ℕ) (kind : ℕ) (named : List ℕ) (gives : List Lits) : Type 0 where
+  pub unspent : (i : ℕ) → i < length named → spent (rowOn d (getD named i 0)) ≡ false
+  pub unsatisfied : (i : ℕ) → i < length named → satisfied (decisions d) (rowOn d (getD named i 0) .lits) ≡ false
+  pub line : Fits (remnantOf d named) kind (length named) gives

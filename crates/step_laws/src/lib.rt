@@ -1,1 +1,1 @@
-// No code: laws of the desk and of its steps, over the definitions of `rules` alone.
+// No code: laws of the steps on a desk, over the definitions of `rules` alone.

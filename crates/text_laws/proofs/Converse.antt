@@ -1,48 +1,49 @@
 -- The converse: a text that is read is the one that the writer writes of what was read. Each line that was read stands there as it is written,
 -- one behind the other from the start, and nothing follows, so the text is no longer than they are. So the form has one spelling.
-use Prim.Native.Nat.{ℕ, _+_, _*_, _/_}
+use Prim.Native.Nat.{ℕ, _+_, _*_}
 use mathlib.Core.Path.{_≡_, refl, sym, ap, _∙_}
-use mathlib.Core.Logic.{⊎-elim}
-use mathlib.Core.Bool.{Bool, true, false, not}
-use mathlib.Core.List.{List, []}
+use mathlib.Core.Bool.{not}
+use mathlib.Core.List.{List}
 use native.Mathlib.Omega.{arith}
 use borrow.Author.Tests.{eqb-true, not-false}
 use lib.Dec.{eqb}
 use lib.ListN.{length}
+use Rattle.masks.proofs.Choice.{impossible}
 use Rattle.rules.specs.declared.HeadRead.{HeadRead}
 use Rattle.rules.specs.declared.TextRead.{TextRead}
 use Rattle.rules.specs.declared.Refusal.the-variants.{BadText}
 use Rattle.rules.specs.declared.Judged.{Judged}
 use Rattle.rules.specs.declared.Judged.the-variants.{Fine, Refused}
-use Rattle.rules.specs.Table.{rowCount}
-use Rattle.rules.specs.Text.{rowsText, tableText}
-use Rattle.rules.specs.Reader.{stands, headAt, RowsRead, rows, brokenAt, rowsAt, restWhy, headWhy, readWhy, wordsOf, readWords, textRead, textReadAs}
+use Rattle.rules.specs.Table.{rowCount, rowWords}
+use Rattle.rules.specs.Text.{rowsText, tableText, firstRowLine, rowLines}
+use Rattle.rules.specs.Reader.{headAt, RowsRead, rows, brokenAt, rowsAt, restWhy, headWhy, readWhy, wordsOf, readWords, textRead, textReadAs}
+use Rattle.rules.proofs.Judging.{refuse-fine}
 use Rattle.text_laws.proofs.Stands.{stands-whole}
-use Rattle.text_laws.proofs.Admissible.{passed}
-use Rattle.text_laws.proofs.Rows.{RowsFound, rows-found}
-use Rattle.text_laws.proofs.Heads.{headText, headEnd, head-length, table-text, HeadFound, head-found}
-use Rattle.text_laws.proofs.Reading.{HeadFine, head-fine}
+use Rattle.text_laws.proofs.Rows.{rows-found}
+use Rattle.text_laws.proofs.Heads.{headText, head-length, table-text, head-found}
+use Rattle.text_laws.proofs.Reading.{head-fine}
 
-count-of : (words : List ℕ) (m : ℕ) → length words ≡ 3 * m → rowCount words ≡ m
+count-of : (words : List ℕ) (m : ℕ) → length words ≡ rowWords * m → rowCount words ≡ m
 unfolding rowCount
 count-of words m e = omega arith
 
 -- rows that are fine are words, and end where the text does
 rest-words : (s : List ℕ) (m : ℕ) (r : RowsRead) → restWhy s m r ≡ Fine → r ≡ rows (wordsOf r) (length s)
 rest-words s m (rows words next) e =
-    let t = passed (not (eqb next (length s))) (BadText (4 + 2 * m)) Fine e in
+    let t = refuse-fine (not (eqb next (length s))) (BadText (firstRowLine + rowLines * m)) Fine e in
     ap (rows words) (eqb-true next (length s) (not-false (eqb next (length s)) (t .0)))
-rest-words s m (brokenAt b) e = absurd (let y : _≡_ {A = ℕ} 0 1 = cc in omega arith)
+rest-words s m (brokenAt b) e = impossible (cc)
 
 -- the text of its head and its rows
-head-and-rows : (s : List ℕ) (n b m next : ℕ) (words : List ℕ) → headAt s ≡ HeadRead.Lines n b m next → rowsAt m s next 4 ≡ rows words (length s)
+head-and-rows : (s : List ℕ) (n b m next : ℕ) (words : List ℕ) → headAt s ≡ HeadRead.Lines n b m next → rowsAt m s next firstRowLine ≡ rows words (length s)
     → s ≡ tableText n b words
 head-and-rows s n b m next words e f =
     let head = head-found s n b m next e in
-    let body = rows-found m s next 4 words (length s) f in
+    let body = rows-found m s next firstRowLine words (length s) f in
     let count = count-of words m (body .long) in
     let text : tableText n b words ≡ headText n b m (rowsText words m) = table-text n b words ∙ ap (λ (k : ℕ). headText n b k (rowsText words k)) count in
-    let long : length (tableText n b words) ≡ length s = ap length text ∙ head-length n b m (rowsText words m) ∙ sym (body .end ∙ ap (λ (k : ℕ). k + length (rowsText words m)) (head .end)) in
+    let end = body .end ∙ ap (λ (k : ℕ). k + length (rowsText words m)) (head .end) in
+    let long : length (tableText n b words) ≡ length s = ap length text ∙ head-length n b m (rowsText words m) ∙ sym end in
     stands-whole s (tableText n b words) (rw text (head .stand (rowsText words m) (body .stand))) long
 
 judged : (s : List ℕ) (room n b m next : ℕ) → headAt s ≡ HeadRead.Lines n b m next → (j : Judged) → headWhy s room (HeadRead.Lines n b m next) ≡ j
@@ -52,9 +53,9 @@ judged s room n b m next e Fine why v c k h =
     let nv : n ≡ v = cc in
     let bc : b ≡ c = cc in
     let fine = head-fine s room n b m next why in
-    let body = rest-words s m (rowsAt m s next 4) (fine .rest) in
-    rw (e, ← nv, ← bc) (head-and-rows s n b m next (wordsOf (rowsAt m s next 4)) e body)
-judged s room n b m next e (Refused r) why v c k h = absurd (let y : _≡_ {A = ℕ} 0 1 = cc in omega arith)
+    let body = rest-words s m (rowsAt m s next firstRowLine) (fine .rest) in
+    rw (e, ← nv, ← bc) (head-and-rows s n b m next (wordsOf (rowsAt m s next firstRowLine)) e body)
+judged s room n b m next e (Refused r) why v c k h = impossible (cc)
 
 pub converse : (s : List ℕ) (room n b m : ℕ) → textRead s room ≡ TextRead.Table n b m → s ≡ tableText n b (readWords s)
 unfolding textRead readWhy
@@ -66,28 +67,28 @@ converse s room n b m h = go (headAt s) refl
         judged s room v c k next e (headWhy s room (HeadRead.Lines v c k next)) refl n b m h2
     go (HeadRead.Broken bad) e =
         let h2 : TextRead.Refused (BadText bad) ≡ TextRead.Table n b m = rw e at h in
-        absurd (let y : _≡_ {A = ℕ} 0 1 = cc in omega arith)
+        impossible (cc)
 
 -- and there are as many words as the rows say
-pub word-count : (s : List ℕ) (room n b m : ℕ) → textRead s room ≡ TextRead.Table n b m → length (readWords s) ≡ 3 * m
+pub word-count : (s : List ℕ) (room n b m : ℕ) → textRead s room ≡ TextRead.Table n b m → length (readWords s) ≡ rowWords * m
 unfolding textRead readWhy readWords
 word-count s room n b m h = go (headAt s) refl
   where
     counted : (v c k next : ℕ) (j : Judged) → headWhy s room (HeadRead.Lines v c k next) ≡ j → textReadAs j (HeadRead.Lines v c k next) ≡ TextRead.Table n b m
-        → length (wordsOf (rowsAt k s next 4)) ≡ 3 * m
+        → length (wordsOf (rowsAt k s next firstRowLine)) ≡ rowWords * m
     counted v c k next Fine why q =
         let km : k ≡ m = cc in
-        let body = rest-words s k (rowsAt k s next 4) (head-fine s room v c k next why .rest) in
-        rows-found k s next 4 (wordsOf (rowsAt k s next 4)) (length s) body .long ∙ ap (λ (x : ℕ). 3 * x) km
-    counted v c k next (Refused r) why q = absurd (let y : _≡_ {A = ℕ} 0 1 = cc in omega arith)
+        let body = rest-words s k (rowsAt k s next firstRowLine) (head-fine s room v c k next why .rest) in
+        rows-found k s next firstRowLine (wordsOf (rowsAt k s next firstRowLine)) (length s) body .long ∙ ap (λ (x : ℕ). rowWords * x) km
+    counted v c k next (Refused r) why q = impossible (cc)
 
-    go : (x : HeadRead) → headAt s ≡ x → length (readWords s) ≡ 3 * m
+    go : (x : HeadRead) → headAt s ≡ x → length (readWords s) ≡ rowWords * m
     go (HeadRead.Lines v c k next) e =
         let h2 : textReadAs (headWhy s room (HeadRead.Lines v c k next)) (HeadRead.Lines v c k next) ≡ TextRead.Table n b m = rw e at h in
         rw e (counted v c k next (headWhy s room (HeadRead.Lines v c k next)) refl h2)
     go (HeadRead.Broken bad) e =
         let h2 : TextRead.Refused (BadText bad) ≡ TextRead.Table n b m = rw e at h in
-        absurd (let y : _≡_ {A = ℕ} 0 1 = cc in omega arith)
+        impossible (cc)
 
 -- so no two texts are read as the same variables, budget and words
 pub one-spelling : (s t : List ℕ) (room other n b m : ℕ) → textRead s room ≡ TextRead.Table n b m → textRead t other ≡ TextRead.Table n b m

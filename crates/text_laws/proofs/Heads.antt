@@ -1,19 +1,22 @@
 -- The first three lines: written, they are read as their numbers; read, they stand there as they are written. Each begins where the one
 -- before it ends, and what follows them begins where the third ends.
-use Prim.Native.Nat.{ℕ, _+_, _<_}
-use mathlib.Core.Path.{_≡_, refl, sym, ap, _∙_}
+use Prim.Native.Nat.{ℕ, _+_, _<_, _^_}
+use mathlib.Core.Path.{_≡_, refl, _∙_}
 use mathlib.Core.Bool.{true}
-use mathlib.Core.List.{List, [], _∷_, _++_}
+use mathlib.Core.List.{List, _++_}
 use native.Mathlib.Omega.{arith}
 use lib.ListN.{length, length-append}
+use Rattle.masks.proofs.Choice.{impossible}
 use Rattle.rules.specs.declared.Parsed.{Parsed}
 use Rattle.rules.specs.declared.HeadRead.{HeadRead}
 use Rattle.rules.specs.Table.{rowCount}
-use Rattle.rules.specs.Text.{bytes, line, rowsText, tableText}
+use Rattle.rules.specs.Text.{bytes, line, rowsText, tableText, mostDigits}
 use Rattle.rules.specs.Reader.{stands, numberLine, headAt}
+use Rattle.text_laws.specs.Pieces.{lineText}
+use Rattle.text_laws.specs.Keys.{varsKey, budgetKey, rowsKey}
 use Rattle.text_laws.proofs.Stands.{first-stands, second-stands, both-stand}
-use Rattle.text_laws.proofs.Branches.{varsKey, budgetKey, rowsKey, head-no-vars, head-no-budget, head-no-rows, head-is}
-use Rattle.text_laws.proofs.Lines.{lineText, line-text, line-reads, LineFound, line-found}
+use Rattle.text_laws.proofs.Branches.{head-no-vars, head-no-budget, head-no-rows, head-is}
+use Rattle.text_laws.proofs.Lines.{line-reads, line-found}
 
 -- the three lines, with what follows them
 abbrev pub headText : ℕ → ℕ → ℕ → List ℕ → List ℕ
@@ -31,10 +34,11 @@ head-length n b m rest =
     rw (length-append one (two ++ (three ++ rest)), length-append two (three ++ rest), length-append three rest) (omega arith)
 
 pub table-text : (n b : ℕ) (table : List ℕ) → tableText n b table ≡ headText n b (rowCount table) (rowsText table (rowCount table))
-unfolding tableText line bytes
-table-text n b table = rw (line-text varsKey n, line-text budgetKey b, line-text rowsKey (rowCount table))
+unfolding tableText line bytes lineText
+table-text n b table = refl
 
-pub head-reads : (s : List ℕ) (n b m : ℕ) (rest : List ℕ) → n < 10_000_000_000 → b < 10_000_000_000 → m < 10_000_000_000 → stands s 0 (headText n b m rest) ≡ true
+pub head-reads : (s : List ℕ) (n b m : ℕ) (rest : List ℕ) → n < 10 ^ mostDigits → b < 10 ^ mostDigits → m < 10 ^ mostDigits
+    → stands s 0 (headText n b m rest) ≡ true
     → (headAt s ≡ HeadRead.Lines n b m (headEnd n b m)) × (stands s (headEnd n b m) rest ≡ true)
 head-reads s n b m rest ln lb lm e =
     let one = lineText varsKey n in
@@ -76,7 +80,7 @@ head-found s n b m next e = first (numberLine s 0 varsKey) refl
         → (r : Parsed) → numberLine s c rowsKey ≡ r → HeadFound s n b m next
     third v a w c p q Parsed.Broken r =
         let z = head-no-rows s v a w c p q r in
-        absurd (let y : _≡_ {A = ℕ} 0 1 = cc in omega arith)
+        impossible (cc)
     third v a w c p q (Parsed.Number x d) r =
         let z = head-is s v a w c x d p q r in
         let vn : v ≡ n = cc in
@@ -88,11 +92,11 @@ head-found s n b m next e = first (numberLine s 0 varsKey) refl
     second : (v a : ℕ) → numberLine s 0 varsKey ≡ Parsed.Number v a → (r : Parsed) → numberLine s a budgetKey ≡ r → HeadFound s n b m next
     second v a p Parsed.Broken q =
         let z = head-no-budget s v a p q in
-        absurd (let y : _≡_ {A = ℕ} 0 1 = cc in omega arith)
+        impossible (cc)
     second v a p (Parsed.Number w c) q = third v a w c p q (numberLine s c rowsKey) refl
 
     first : (r : Parsed) → numberLine s 0 varsKey ≡ r → HeadFound s n b m next
     first Parsed.Broken p =
         let z = head-no-vars s p in
-        absurd (let y : _≡_ {A = ℕ} 0 1 = cc in omega arith)
+        impossible (cc)
     first (Parsed.Number v a) p = second v a p (numberLine s a budgetKey) refl

@@ -1,7 +1,9 @@
+pub mod Matched
 pub mod Stands
 pub mod Numbers
 pub mod Branches
-pub mod Admissible
+pub mod Pieces
+pub mod RowWords
 pub mod Reading
 pub mod Writing
 pub mod Lines
@@ -11,3 +13,4 @@ pub mod Rows
 pub mod Heads
 pub mod RoundTrip
 pub mod Converse
+pub mod Found

@@ -1,36 +1,37 @@
 -- A line of literals that is read is written so. At each turn the literals so far are written up to the place, and reach no further than the
 -- last variable; the next one is above it, so that it comes behind what is written and changes nothing of it.
-use Prim.Native.Nat.{ℕ, zero, suc, _+_, _-_, _*_, _^_, _<_, _≤_}
+use Prim.Native.Nat.{ℕ, zero, suc, _+_, _-_, _^_, _<_, _≤_}
 use mathlib.Core.Path.{_≡_, refl, sym, ap, subst, _∙_}
 use mathlib.Core.Logic.{_⊎_, inl, inr, ⊎-elim}
-use mathlib.Core.Bool.{Bool, true, false, cond, or-true, or-false}
+use mathlib.Core.Bool.{Bool, true, false, or-true, or-false}
 use mathlib.Core.List.{List, [], _∷_, _++_}
 use native.Mathlib.Nat.{add-zero}
 use native.Mathlib.Omega.{arith}
 use borrow.Author.Tests.{eqb-true, eqb-false, lt-ltb}
-use lib.Dec.{eqb, ltb}
+use lib.Dec.{eqb}
 use lib.Bits.{bitOr}
 use lib.ListN.{length, getD, length-append}
 use Rattle.masks.specs.Masks.{has, single}
-use Rattle.masks.proofs.Choice.{cases}
+use Rattle.masks.proofs.Choice.{cases, impossible}
 use Rattle.masks.proofs.Bits.{has-or, has-past, has-pow-same, has-pow-other, lt-of-has}
 use Rattle.literals.specs.declared.Lits.{Lits}
 use Rattle.literals.specs.Lits.{noLits}
+use Rattle.literals.specs.Literal.{mostVariables}
 use Rattle.rules.specs.declared.Signed.{Signed}
 use Rattle.rules.specs.declared.Listed.{Listed}
-use Rattle.rules.specs.Text.{numberText, behind, litsText}
-use Rattle.rules.specs.Reader.{stands, numberAt, literalAt, withLiteral, litsFrom, litsLine}
+use Rattle.rules.specs.Text.{numberText, behind, litsText, lineFeed, space, minus}
+use Rattle.rules.specs.Reader.{stands, literalAt, withLiteral, litsFrom}
 use Rattle.text_laws.proofs.Stands.{stands-none, both-stand, byte-stands, cons-stands}
-use Rattle.text_laws.proofs.Numbers.{NumberFound, number-found}
+use Rattle.text_laws.proofs.Numbers.{number-found}
 use Rattle.text_laws.proofs.Branches.{LiteralFound, literal-found, Parted, lits-none, lits-end, lits-unparted, lits-broken, lits-next}
 use Rattle.text_laws.proofs.Lists.{literalText, Begun, behind-none, behind-some, behind-length, literal-some}
 
 -- ---- one bit more in a mask
 
-module _ (m u : ℕ) (h : u < 64) where
+module _ (m u : ℕ) (h : u < mostVariables) where
   put-is : bitOr m (single (suc u - 1)) ≡ bitOr m (2 ^ u)
   unfolding single
-  put-is = let back : suc u - 1 ≡ u = omega arith in rw (back, lt-ltb u 64 h)
+  put-is = let back : suc u - 1 ≡ u = omega arith in rw (back, lt-ltb u mostVariables h)
 
   put-has : has (bitOr m (single (suc u - 1))) u ≡ true
   put-has = rw (put-is, has-or m (2 ^ u) u, has-pow-same u) (or-true (has m u))
@@ -69,15 +70,17 @@ lits-upto last u l h p n =
     ap (λ (k : ℕ). litsText k l) e ∙ lits-quiet last (u - last) l p n
 
 -- the set with one literal more, above all that it has
-module _ (last : ℕ) (l : Lits) (u : ℕ) (h : u < 64) (k : last ≤ u) (bp : l .positive < 2 ^ last) (bn : l .negative < 2 ^ last) where
+module _ (last : ℕ) (l : Lits) (u : ℕ) (h : u < mostVariables) (k : last ≤ u) (bp : l .positive < 2 ^ last) (bn : l .negative < 2 ^ last) where
   with-text : (p : Bool) → litsText (suc u) (withLiteral l p (suc u)) ≡ behind (litsText last l) (literalText p (suc u))
   unfolding litsText withLiteral literalText
   with-text true =
       rw (put-has (l .positive) u h)
-      (ap (λ (x : List ℕ). behind x (numberText (suc u))) (lits-same u (withLiteral l true (suc u)) l (put-low (l .positive) u h) (λ w g. refl) ∙ lits-upto last u l k bp bn))
+      (ap (λ (x : List ℕ). behind x (numberText (suc u)))
+      (lits-same u (withLiteral l true (suc u)) l (put-low (l .positive) u h) (λ w g. refl) ∙ lits-upto last u l k bp bn))
   with-text false =
       rw (has-past last bp k, put-has (l .negative) u h)
-      (ap (λ (x : List ℕ). behind x (45 ∷ numberText (suc u))) (lits-same u (withLiteral l false (suc u)) l (λ w g. refl) (put-low (l .negative) u h) ∙ lits-upto last u l k bp bn))
+      (ap (λ (x : List ℕ). behind x (minus ∷ numberText (suc u)))
+      (lits-same u (withLiteral l false (suc u)) l (λ w g. refl) (put-low (l .negative) u h) ∙ lits-upto last u l k bp bn))
 
   with-bounds : (p : Bool) → (withLiteral l p (suc u) .positive < 2 ^ suc u) × (withLiteral l p (suc u) .negative < 2 ^ suc u)
   unfolding withLiteral
@@ -94,12 +97,13 @@ literal-stands s at last true v next f =
     (n .stand, n .end)
 literal-stands s at last false v next f =
     let n = number-found s (at + 1) v next (f .number) in
-    (cons-stands s at 45 (numberText v) (f .sign) (n .stand), n .end ∙ (let z : at + 1 + length (numberText v) ≡ at + suc (length (numberText v)) = omega arith in z))
+    let end : at + 1 + length (numberText v) ≡ at + suc (length (numberText v)) = omega arith in
+    (cons-stands s at minus (numberText v) (f .sign) (n .stand), n .end ∙ end)
 
 -- ---- what is read so far
 
 record SoFar (s : List ℕ) (from at last : ℕ) (l : Lits) : Type 0 where
-  most : last ≤ 64
+  most : last ≤ mostVariables
   positive : l .positive < 2 ^ last
   negative : l .negative < 2 ^ last
   stand : stands s from (litsText last l) ≡ true
@@ -117,22 +121,28 @@ module _ (s : List ℕ) (from at last : ℕ) (l : Lits) (so : SoFar s from at la
       let here : q ≡ from = e ∙ so .place ∙ ap (λ (x : List ℕ). from + length x) n ∙ add-zero from in
       rw (n, behind-none (literalText p v)) (rw (← here) (w .0, w .1))
 
-  grown-later : 0 < length (litsText last l) → getD s at 0 ≡ 32 → q ≡ at + 1 → Grown (behind (litsText last l) (literalText p v))
+  grown-later : 0 < length (litsText last l) → getD s at 0 ≡ space → q ≡ at + 1 → Grown (behind (litsText last l) (literalText p v))
   grown-later b c e =
       let w = literal-stands s q last p v next f in
       let lit = literalText p v in
       let text = litsText last l in
-      let there : stands s (from + length text) (32 ∷ lit) ≡ true = rw (← so .place) (cons-stands s at 32 lit c (rw (← e) (w .0))) in
+      let there : stands s (from + length text) (space ∷ lit) ≡ true = rw (← so .place) (cons-stands s at space lit c (rw (← e) (w .0))) in
       rw (behind-some text lit b)
-      (both-stand s from text (32 ∷ lit) (so .stand) there, w .1 ∙ rw (e, so .place, length-append text (32 ∷ lit)) (omega arith))
+      (both-stand s from text (space ∷ lit) (so .stand) there, w .1 ∙ rw (e, so .place, length-append text (space ∷ lit)) (omega arith))
 
   grown : Parted s at last q → Grown (behind (litsText last l) (literalText p v))
   grown parts =
       ⊎-elim
       (λ (x : (last ≡ 0) × (q ≡ at)).
-      ⊎-elim (λ (y : (last ≡ 0) × (litsText last l ≡ [])). grown-first (y .1) (x .1)) (λ (y : (last ≡ 0 → ⊥) × (0 < length (litsText last l))). absurd (y .0 (x .0))) (so .start))
-      (λ (x : (last ≡ 0 → ⊥) × (getD s at 0 ≡ 32) × (q ≡ at + 1)).
-      ⊎-elim (λ (y : (last ≡ 0) × (litsText last l ≡ [])). absurd (x .0 (y .0))) (λ (y : (last ≡ 0 → ⊥) × (0 < length (litsText last l))). grown-later (y .1) (x .1) (x .2)) (so .start))
+      ⊎-elim
+      (λ (y : (last ≡ 0) × (litsText last l ≡ [])). grown-first (y .1) (x .1))
+      (λ (y : (last ≡ 0 → ⊥) × (0 < length (litsText last l))). absurd (y .0 (x .0)))
+      (so .start))
+      (λ (x : (last ≡ 0 → ⊥) × (getD s at 0 ≡ space) × (q ≡ at + 1)).
+      ⊎-elim
+      (λ (y : (last ≡ 0) × (litsText last l ≡ [])). absurd (x .0 (y .0)))
+      (λ (y : (last ≡ 0 → ⊥) × (0 < length (litsText last l))). grown-later (y .1) (x .1) (x .2))
+      (so .start))
       parts
 
   so-next : Parted s at last q → SoFar s from next v (withLiteral l p v)
@@ -140,9 +150,11 @@ module _ (s : List ℕ) (from at last : ℕ) (l : Lits) (so : SoFar s from at la
       let u = v - 1 in
       let one : v ≡ suc u = omega (arith, f .above) in
       let above : last ≤ u = omega (arith, f .above) in
-      let most : u < 64 = omega (arith, f .most, f .above) in
+      let most : u < mostVariables = omega (arith, f .most, f .above) in
       let text : litsText v (withLiteral l p v) ≡ behind (litsText last l) (literalText p v) =
-      ap (λ (x : ℕ). litsText x (withLiteral l p x)) one ∙ with-text last l u most above (so .positive) (so .negative) p ∙ ap (λ (x : ℕ). behind (litsText last l) (literalText p x)) (sym one) in
+      ap (λ (x : ℕ). litsText x (withLiteral l p x)) one
+      ∙ with-text last l u most above (so .positive) (so .negative) p
+      ∙ ap (λ (x : ℕ). behind (litsText last l) (literalText p x)) (sym one) in
       let bounds = with-bounds last l u most above (so .positive) (so .negative) p in
       let g = grown parts in
       record {
@@ -157,19 +169,20 @@ module _ (s : List ℕ) (from at last : ℕ) (l : Lits) (so : SoFar s from at la
 -- ---- the token's second law
 
 pub record ListFound (s : List ℕ) (from : ℕ) (l : Lits) (next : ℕ) : Type 0 where
-  pub stand : stands s from (litsText 64 l ++ (10 ∷ [])) ≡ true
-  pub end : next ≡ from + length (litsText 64 l ++ (10 ∷ []))
+  pub stand : stands s from (litsText mostVariables l ++ (lineFeed ∷ [])) ≡ true
+  pub end : next ≡ from + length (litsText mostVariables l ++ (lineFeed ∷ []))
 
-found-end : (s : List ℕ) (from at last : ℕ) (l : Lits) → SoFar s from at last l → getD s at 0 ≡ 10 → ListFound s from l (at + 1)
+found-end : (s : List ℕ) (from at last : ℕ) (l : Lits) → SoFar s from at last l → getD s at 0 ≡ lineFeed → ListFound s from l (at + 1)
 found-end s from at last l so e =
-    let text = lits-upto last 64 l (so .most) (so .positive) (so .negative) in
+    let text = lits-upto last mostVariables l (so .most) (so .positive) (so .negative) in
+    let byte = byte-stands s (from + length (litsText last l)) lineFeed (rw (← so .place) e) in
     record {
-      stand = rw text (both-stand s from (litsText last l) (10 ∷ []) (so .stand) (byte-stands s (from + length (litsText last l)) 10 (rw (← so .place) e)));
-      end = rw (text, length-append (litsText last l) (10 ∷ []), so .place) (omega arith);
+      stand = rw text (both-stand s from (litsText last l) (lineFeed ∷ []) (so .stand) byte);
+      end = rw (text, length-append (litsText last l) (lineFeed ∷ []), so .place) (omega arith);
     }
 
 -- a turn that is not the line's end: the literal that it read, and what is found behind it
-found-turn : (k : ℕ) (s : List ℕ) (from at last : ℕ) (l found : Lits) (next q : ℕ) → SoFar s from at last l → (getD s at 0 ≡ 10 → ⊥) → Parted s at last q
+found-turn : (k : ℕ) (s : List ℕ) (from at last : ℕ) (l found : Lits) (next q : ℕ) → SoFar s from at last l → (getD s at 0 ≡ lineFeed → ⊥) → Parted s at last q
     → litsFrom (suc k) s at last l ≡ Listed.Literals found next
     → ((place v : ℕ) (more : Lits) → SoFar s from place v more → litsFrom k s place v more ≡ Listed.Literals found next → ListFound s from found next)
     → ListFound s from found next
@@ -178,38 +191,40 @@ found-turn k s from at last l found next q so e parts h ih = go (literalAt s q l
     go : (r : Signed) → literalAt s q last ≡ r → ListFound s from found next
     go Signed.Broken z =
         let b = lits-broken k s at last l q e parts z in
-        absurd (let y : _≡_ {A = ℕ} 0 1 = cc in omega arith)
+        impossible (cc)
     go (Signed.Literal p v place) z =
-        ih place v (withLiteral l p v) (so-next s from at last l so q p v place (literal-found s q last p v place z) parts) (sym (lits-next k s at last l q p v place e parts z) ∙ h)
+        let so-far = so-next s from at last l so q p v place (literal-found s q last p v place z) parts in
+        ih place v (withLiteral l p v) so-far (sym (lits-next k s at last l q p v place e parts z) ∙ h)
 
 lits-found : (k : ℕ) (s : List ℕ) (from at last : ℕ) (l found : Lits) (next : ℕ) → SoFar s from at last l → litsFrom k s at last l ≡ Listed.Literals found next
     → ListFound s from found next
 lits-found zero s from at last l found next so h =
     let b = lits-none 0 s at last l in
-    absurd (let y : _≡_ {A = ℕ} 0 1 = cc in omega arith)
+    impossible (cc)
 lits-found (suc k) s from at last l found next so h =
     let ih : (place v : ℕ) (more : Lits) → SoFar s from place v more → litsFrom k s place v more ≡ Listed.Literals found next → ListFound s from found next =
     λ place v more. lits-found k s from place v more found next in
     ⊎-elim
-    (λ (t : eqb (getD s at 0) 10 ≡ true).
-    let b = eqb-true (getD s at 0) 10 t in
+    (λ (t : eqb (getD s at 0) lineFeed ≡ true).
+    let b = eqb-true (getD s at 0) lineFeed t in
     let r = lits-end k s at last l b in
     let same : l ≡ found = cc in
     let place : at + 1 ≡ next = cc in
     rw (← same, ← place) (found-end s from at last l so b))
-    (λ (t : eqb (getD s at 0) 10 ≡ false).
-    let e = eqb-false (getD s at 0) 10 t in
+    (λ (t : eqb (getD s at 0) lineFeed ≡ false).
+    let e = eqb-false (getD s at 0) lineFeed t in
     ⊎-elim
     (λ (z : eqb last 0 ≡ true). found-turn k s from at last l found next at so e (inl (eqb-true last 0 z, refl)) h ih)
     (λ (z : eqb last 0 ≡ false).
     ⊎-elim
-    (λ (b : eqb (getD s at 0) 32 ≡ true). found-turn k s from at last l found next (at + 1) so e (inr (eqb-false last 0 z, eqb-true (getD s at 0) 32 b, refl)) h ih)
-    (λ (b : eqb (getD s at 0) 32 ≡ false).
-    let r = lits-unparted k s at last l e (eqb-false last 0 z) (eqb-false (getD s at 0) 32 b) in
-    absurd (let y : _≡_ {A = ℕ} 0 1 = cc in omega arith))
-    (cases (eqb (getD s at 0) 32)))
+    (λ (b : eqb (getD s at 0) space ≡ true).
+    found-turn k s from at last l found next (at + 1) so e (inr (eqb-false last 0 z, eqb-true (getD s at 0) space b, refl)) h ih)
+    (λ (b : eqb (getD s at 0) space ≡ false).
+    let r = lits-unparted k s at last l e (eqb-false last 0 z) (eqb-false (getD s at 0) space b) in
+    impossible (cc))
+    (cases (eqb (getD s at 0) space)))
     (cases (eqb last 0)))
-    (cases (eqb (getD s at 0) 10))
+    (cases (eqb (getD s at 0) lineFeed))
 
 so-start : (s : List ℕ) (from : ℕ) → SoFar s from from 0 noLits
 unfolding litsText noLits
@@ -223,5 +238,5 @@ so-start s from =
       start = inl (refl, refl);
     }
 
-pub lits-spelt : (s : List ℕ) (from : ℕ) (l : Lits) (next : ℕ) → litsFrom 65 s from 0 noLits ≡ Listed.Literals l next → ListFound s from l next
-lits-spelt s from l next e = lits-found 65 s from from 0 noLits l next (so-start s from) e
+pub lits-spelt : (s : List ℕ) (from : ℕ) (l : Lits) (next : ℕ) → litsFrom (suc mostVariables) s from 0 noLits ≡ Listed.Literals l next → ListFound s from l next
+lits-spelt s from l next e = lits-found (suc mostVariables) s from from 0 noLits l next (so-start s from) e

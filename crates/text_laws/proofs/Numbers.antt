@@ -1,17 +1,17 @@
 -- A number in a text. Its digits, last one last, make the value; the value's digits are those, since the first of several is not 0. So what
--- is written of a number below 10 ^ 10 is read as it where no digit follows, and a number that is read stands there as it is written.
+-- is written of a number below 10 ^ mostDigits is read as it where no digit follows, and a number that is read stands there as it is written.
 use Prim.Native.Nat.{ℕ, zero, suc, _+_, _-_, _*_, _/_, _%_, _^_, _<_, _≤_}
-use mathlib.Core.Path.{_≡_, refl, sym, ap, _∙_}
+use mathlib.Core.Path.{_≡_, refl, ap, _∙_}
 use mathlib.Core.Logic.{_⊎_, inl, inr, ⊎-elim}
-use mathlib.Core.Bool.{Bool, true, false, cond, not, _&&_, _||_, or-true}
+use mathlib.Core.Bool.{Bool, true, false, not, _&&_, _||_, or-true}
 use mathlib.Core.List.{List, [], _∷_, _++_}
-use native.Mathlib.Nat.{pow-suc, pow-le-pow-right, add-zero, zero-add, not-suc-le-zero}
+use native.Mathlib.Nat.{pow-suc, pow-le-pow-right, add-zero}
 use native.Mathlib.Numerals.{add-one}
 use native.Mathlib.Omega.{arith}
-use borrow.Author.Tests.{eq-eqb, ne-eqb, eqb-true, eqb-false, ltb-true, ltb-false, lt-ltb, le-ltb, le-leb, lt-leb, leb-true, not-true}
+use borrow.Author.Tests.{eq-eqb, ne-eqb, eqb-true, eqb-false, ltb-true, lt-ltb, le-ltb, le-leb, leb-true, not-true}
 use lib.Dec.{eqb, leb, ltb}
 use lib.ListN.{length, getD, length-append}
-use Rattle.masks.proofs.Choice.{cases, and-left, and-right, both, or-cases, lt-or-le, clash, not-so}
+use Rattle.masks.proofs.Choice.{cases, and-left, and-right, both, or-cases, lt-or-le, impossible}
 use Rattle.rules.specs.declared.Parsed.{Parsed}
 use Rattle.rules.specs.Text.{digitZero, mostDigits, digits, numberText}
 use Rattle.rules.specs.Reader.{stands, isDigit, digitRun, valueOf, numberAt}
@@ -19,17 +19,17 @@ use Rattle.text_laws.proofs.Stands.{inside, first-stands, second-stands
 
 -- ---- digits
 
-pub digit-low : (b : ℕ) → isDigit b ≡ true → 48 ≤ b
+pub digit-low : (b : ℕ) → isDigit b ≡ true → digitZero ≤ b
 unfolding isDigit
-digit-low b e = leb-true 48 b (and-left (leb 48 b) (ltb b 58) e)
+digit-low b e = leb-true digitZero b (and-left (leb digitZero b) (ltb b (digitZero + 10)) e)
 
-pub digit-high : (b : ℕ) → isDigit b ≡ true → b < 58
+pub digit-high : (b : ℕ) → isDigit b ≡ true → b < digitZero + 10
 unfolding isDigit
-digit-high b e = ltb-true b 58 (and-right (leb 48 b) (ltb b 58) e)
+digit-high b e = ltb-true b (digitZero + 10) (and-right (leb digitZero b) (ltb b (digitZero + 10)) e)
 
-pub digit-of : (d : ℕ) → d < 10 → isDigit (48 + d) ≡ true
+pub digit-of : (d : ℕ) → d < 10 → isDigit (digitZero + d) ≡ true
 unfolding isDigit
-digit-of d l = both (le-leb 48 (48 + d) (omega arith)) (lt-ltb (48 + d) 58 (omega arith))
+digit-of d l = both (le-leb digitZero (digitZero + d) (omega arith)) (lt-ltb (digitZero + d) (digitZero + 10) (omega arith))
 
 -- n digits from the place on
 abbrev pub Digits : List ℕ → ℕ → ℕ → Type 0
@@ -92,7 +92,7 @@ pub value-none : (s : List ℕ) (at : ℕ) → valueOf s at 0 ≡ 0
 unfolding valueOf
 value-none s at = refl
 
-pub value-more : (s : List ℕ) (at n : ℕ) → valueOf s at (n + 1) ≡ valueOf s at n * 10 + (getD s (at + n) 0 - 48)
+pub value-more : (s : List ℕ) (at n : ℕ) → valueOf s at (n + 1) ≡ valueOf s at n * 10 + (getD s (at + n) 0 - digitZero)
 unfolding valueOf
 value-more s at n = rw add-one
 
@@ -106,17 +106,17 @@ value-lt s at (suc n) h =
     omega (arith, ap (valueOf s at) q ∙ value-more s at n)
 
 -- at most ten digits make a number that fits
-pub value-small : (s : List ℕ) (at n : ℕ) → Digits s at n → n ≤ 10 → valueOf s at n < 10_000_000_000
+pub value-small : (s : List ℕ) (at n : ℕ) → Digits s at n → n ≤ mostDigits → valueOf s at n < 10 ^ mostDigits
 value-small s at n h l =
-    let p : 10 ^ n ≤ 10 ^ 10 = pow-le-pow-right (omega arith) l in
+    let p : 10 ^ n ≤ 10 ^ mostDigits = pow-le-pow-right (omega arith) l in
     omega (arith, value-lt s at n h)
 
 -- a first digit that is not 0 makes it positive
-pub value-pos : (s : List ℕ) (at n : ℕ) → 48 < getD s at 0 → 0 < valueOf s at (suc n)
+pub value-pos : (s : List ℕ) (at n : ℕ) → digitZero < getD s at 0 → 0 < valueOf s at (suc n)
 value-pos s at zero h =
     let p : at + 0 ≡ at = add-zero at in
     let q = value-more s at 0 in
-    let r : valueOf s at 1 ≡ valueOf s at 0 * 10 + (getD s at 0 - 48) = rw p at q in
+    let r : valueOf s at 1 ≡ valueOf s at 0 * 10 + (getD s at 0 - digitZero) = rw p at q in
     omega arith
 value-pos s at (suc n) h =
     let q : suc (suc n) ≡ suc n + 1 = omega arith in
@@ -124,11 +124,11 @@ value-pos s at (suc n) h =
 
 -- ---- what is written
 
-pub digits-small : (k n : ℕ) → n < 10 → digits (suc k) n ≡ (48 + n) ∷ []
+pub digits-small : (k n : ℕ) → n < 10 → digits (suc k) n ≡ (digitZero + n) ∷ []
 unfolding digits
 digits-small k n l = rw (lt-ltb n 10 l)
 
-pub digits-large : (k n : ℕ) → 10 ≤ n → digits (suc k) n ≡ digits k (n / 10) ++ ((48 + n % 10) ∷ [])
+pub digits-large : (k n : ℕ) → 10 ≤ n → digits (suc k) n ≡ digits k (n / 10) ++ ((digitZero + n % 10) ∷ [])
 unfolding digits
 digits-large k n l = rw (le-ltb n 10 l)
 
@@ -138,7 +138,7 @@ digits-length zero n = omega arith
 digits-length (suc k) n =
     ⊎-elim
     (λ l. rw (digits-small k n l) (omega arith))
-    (λ l. rw (digits-large k n l, length-append (digits k (n / 10)) ((48 + n % 10) ∷ [])) (omega (arith, digits-length k (n / 10))))
+    (λ l. rw (digits-large k n l, length-append (digits k (n / 10)) ((digitZero + n % 10) ∷ [])) (omega (arith, digits-length k (n / 10))))
     (lt-or-le n 10)
 
 -- what a number that stands at a place is there
@@ -147,13 +147,13 @@ pub record Written (s : List ℕ) (at n v : ℕ) : Type 0 where
   pub all : (i : ℕ) → i < n → isDigit (getD s (at + i) 0) ≡ true
   pub value : valueOf s at n ≡ v
   pub single : v < 10 → n ≡ 1
-  pub leading : 0 < v → 48 < getD s at 0
+  pub leading : 0 < v → digitZero < getD s at 0
 
-written-one : (s : List ℕ) (at v : ℕ) → v < 10 → stands s at ((48 + v) ∷ []) ≡ true → Written s at 1 v
+written-one : (s : List ℕ) (at v : ℕ) → v < 10 → stands s at ((digitZero + v) ∷ []) ≡ true → Written s at 1 v
 written-one s at v l e =
-    let b : getD s at 0 ≡ 48 + v = front-byte s at (48 + v) [] e in
+    let b : getD s at 0 ≡ digitZero + v = front-byte s at (digitZero + v) [] e in
     let q : at + 0 ≡ at = add-zero at in
-    let r : valueOf s at 1 ≡ valueOf s at 0 * 10 + (getD s at 0 - 48) = rw q at (value-more s at 0) in
+    let r : valueOf s at 1 ≡ valueOf s at 0 * 10 + (getD s at 0 - digitZero) = rw q at (value-more s at 0) in
     record {
       some = omega arith;
       all = λ i li. let z : at + i ≡ at = omega arith in rw (z, b) (digit-of v l);
@@ -163,11 +163,12 @@ written-one s at v l e =
     }
 
 written-more : (s : List ℕ) (at v : ℕ) (front : List ℕ) → 10 ≤ v → Written s at (length front) (v / 10)
-    → stands s at (front ++ ((48 + v % 10) ∷ [])) ≡ true → Written s at (length (front ++ ((48 + v % 10) ∷ []))) v
+    → stands s at (front ++ ((digitZero + v % 10) ∷ [])) ≡ true → Written s at (length (front ++ ((digitZero + v % 10) ∷ []))) v
 written-more s at v front l w e =
-    let b : getD s (at + length front) 0 ≡ 48 + v % 10 = front-byte s (at + length front) (48 + v % 10) [] (second-stands s at front ((48 + v % 10) ∷ []) e) in
+    let digit = digitZero + v % 10 in
+    let b : getD s (at + length front) 0 ≡ digit = front-byte s (at + length front) digit [] (second-stands s at front (digit ∷ []) e) in
     let vm = value-more s at (length front) in
-    rw (length-append front ((48 + v % 10) ∷ []))
+    rw (length-append front ((digitZero + v % 10) ∷ []))
     record {
       some = omega arith;
       all =
@@ -187,7 +188,7 @@ digits-written s at (suc k) v h p e =
     let pw = pow-suc 10 k in
     let hk : 0 < k = ⊎-elim (λ z. z) (λ z. absurd (omega (arith, ap (λ (j : ℕ). 10 ^ j) (let zz : k ≡ 0 = omega arith in zz)))) (lt-or-le 0 k) in
     let e2 = rw (digits-large k v l) at e in
-    let w = digits-written s at k (v / 10) (omega arith) hk (first-stands s at (digits k (v / 10)) ((48 + v % 10) ∷ []) e2) in
+    let w = digits-written s at k (v / 10) (omega arith) hk (first-stands s at (digits k (v / 10)) ((digitZero + v % 10) ∷ []) e2) in
     rw (digits-large k v l) (written-more s at v (digits k (v / 10)) l w e2))
     (lt-or-le v 10)
 
@@ -199,18 +200,19 @@ pub record Spelt (s : List ℕ) (at k n : ℕ) : Type 0 where
 spelt-one : (s : List ℕ) (at k : ℕ) → isDigit (getD s at 0) ≡ true → Spelt s at (suc k) 1
 spelt-one s at k e =
     let q : at + 0 ≡ at = add-zero at in
-    let r : valueOf s at 1 ≡ valueOf s at 0 * 10 + (getD s at 0 - 48) = rw q at (value-more s at 0) in
+    let r : valueOf s at 1 ≡ valueOf s at 0 * 10 + (getD s at 0 - digitZero) = rw q at (value-more s at 0) in
     let low = digit-low (getD s at 0) e in
     let high = digit-high (getD s at 0) e in
     let z = value-none s at in
     let l : valueOf s at 1 < 10 = omega arith in
     let ds = digits-small k (valueOf s at 1) l in
     record {
-      stand = rw ds (byte-stands s at (48 + valueOf s at 1) (omega arith));
+      stand = rw ds (byte-stands s at (digitZero + valueOf s at 1) (omega arith));
       long = rw ds;
     }
 
-spelt-more : (s : List ℕ) (at k n : ℕ) → 48 < getD s at 0 → isDigit (getD s (at + suc n) 0) ≡ true → Spelt s at k (suc n) → Spelt s at (suc k) (suc n + 1)
+spelt-more : (s : List ℕ) (at k n : ℕ) → digitZero < getD s at 0 → isDigit (getD s (at + suc n) 0) ≡ true → Spelt s at k (suc n)
+    → Spelt s at (suc k) (suc n + 1)
 spelt-more s at k n h e w =
     let v = valueOf s at (suc n) in
     let b = getD s (at + suc n) 0 in
@@ -221,7 +223,7 @@ spelt-more s at k n h e w =
     let u = valueOf s at (suc n + 1) in
     let l : 10 ≤ u = omega arith in
     let up : u / 10 ≡ v = omega arith in
-    let down : 48 + u % 10 ≡ b = omega arith in
+    let down : digitZero + u % 10 ≡ b = omega arith in
     let ds : digits (suc k) u ≡ digits k v ++ (b ∷ []) = digits-large k u l ∙ rw (up, down) in
     let last : getD s (at + length (digits k v)) 0 ≡ b = rw (w .long) in
     record {
@@ -229,7 +231,7 @@ spelt-more s at k n h e w =
       long = rw (ds, length-append (digits k v) (b ∷ []), w .long);
     }
 
-pub digits-spelt : (s : List ℕ) (at k n : ℕ) → n < k → (n ≡ 0) ⊎ (48 < getD s at 0) → Digits s at (suc n) → Spelt s at k (suc n)
+pub digits-spelt : (s : List ℕ) (at k n : ℕ) → n < k → (n ≡ 0) ⊎ (digitZero < getD s at 0) → Digits s at (suc n) → Spelt s at k (suc n)
 digits-spelt s at zero n l c h = absurd (omega arith)
 digits-spelt s at (suc k) zero l c h = spelt-one s at k (rw (add-zero at) at (h 0 (omega arith)))
 digits-spelt s at (suc k) (suc n) l c h =
@@ -241,44 +243,47 @@ digits-spelt s at (suc k) (suc n) l c h =
 
 -- ---- the token's two laws
 
-no-zero : (s : List ℕ) (at v n : ℕ) → (v < 10 → n ≡ 1) → (0 < v → 48 < getD s at 0) → (eqb n 1 || not (eqb (getD s at 0) 48)) ≡ true
+no-zero : (s : List ℕ) (at v n : ℕ) → (v < 10 → n ≡ 1) → (0 < v → digitZero < getD s at 0) → (eqb n 1 || not (eqb (getD s at 0) digitZero)) ≡ true
 no-zero s at v n one lead =
     ⊎-elim (λ x. rw (eq-eqb n 1 (one x)))
-    (λ x. rw (ne-eqb (getD s at 0) 48 (λ z. omega (arith, lead (omega arith)))) (or-true (eqb n 1)))
+    (λ x. rw (ne-eqb (getD s at 0) digitZero (λ z. omega (arith, lead (omega arith)))) (or-true (eqb n 1)))
     (lt-or-le v 10)
 
-pub number-reads : (s : List ℕ) (at v : ℕ) → v < 10_000_000_000 → stands s at (numberText v) ≡ true
+pub number-reads : (s : List ℕ) (at v : ℕ) → v < 10 ^ mostDigits → stands s at (numberText v) ≡ true
     → isDigit (getD s (at + length (numberText v)) 0) ≡ false
     → numberAt s at ≡ Parsed.Number v (at + length (numberText v))
 unfolding numberText numberAt
 number-reads s at v l e f =
-    let n = length (digits 10 v) in
-    let w = digits-written s at 10 v l (omega arith) e in
-    let r : digitRun s at 11 ≡ n = run-unique s at 11 n (omega (arith, digits-length 10 v)) (w .all) f in
-    rw (r, le-leb 1 n (w .some), le-leb n 10 (digits-length 10 v), no-zero s at v n (w .single) (w .leading), w .value)
+    let n = length (digits mostDigits v) in
+    let w = digits-written s at mostDigits v l (omega arith) e in
+    let r : digitRun s at (suc mostDigits) ≡ n = run-unique s at (suc mostDigits) n (omega (arith, digits-length mostDigits v)) (w .all) f in
+    rw (r, le-leb 1 n (w .some), le-leb n mostDigits (digits-length mostDigits v), no-zero s at v n (w .single) (w .leading), w .value)
 
 -- the test of a number's digits
 pub numeral : List ℕ → ℕ → ℕ → Bool
-numeral s at n = leb 1 n && (leb n 10 && (eqb n 1 || not (eqb (getD s at 0) 48)))
+numeral s at n = leb 1 n && (leb n mostDigits && (eqb n 1 || not (eqb (getD s at 0) digitZero)))
 
 pub record NumberFound (s : List ℕ) (at v next : ℕ) : Type 0 where
   pub stand : stands s at (numberText v) ≡ true
   pub end : next ≡ at + length (numberText v)
-  pub small : v < 10_000_000_000
+  pub small : v < 10 ^ mostDigits
   pub inside : next ≤ length s
 
-found-by : (s : List ℕ) (at n : ℕ) → n ≡ digitRun s at 11 → numeral s at n ≡ true → NumberFound s at (valueOf s at n) (at + n)
+found-by : (s : List ℕ) (at n : ℕ) → n ≡ digitRun s at (suc mostDigits) → numeral s at n ≡ true → NumberFound s at (valueOf s at n) (at + n)
 unfolding numeral numberText
-found-by s at zero r e = absurd (omega (arith, leb-true 1 0 (and-left (leb 1 0) (leb 0 10 && (eqb 0 1 || not (eqb (getD s at 0) 48))) e)))
+found-by s at zero r e = absurd (omega (arith, leb-true 1 0 (and-left (leb 1 0) (leb 0 mostDigits && (eqb 0 1 || not (eqb (getD s at 0) digitZero))) e)))
 found-by s at (suc n) r e =
-    let e2 = and-right (leb 1 (suc n)) (leb (suc n) 10 && (eqb (suc n) 1 || not (eqb (getD s at 0) 48))) e in
-    let l = leb-true (suc n) 10 (and-left (leb (suc n) 10) (eqb (suc n) 1 || not (eqb (getD s at 0) 48)) e2) in
-    let e3 = and-right (leb (suc n) 10) (eqb (suc n) 1 || not (eqb (getD s at 0) 48)) e2 in
-    let h : Digits s at (suc n) = λ i li. run-digits s at 11 i (omega arith) in
-    let low : 48 ≤ getD s at 0 = digit-low (getD s at 0) (rw (add-zero at) at (h 0 (omega arith))) in
-    let c : (n ≡ 0) ⊎ (48 < getD s at 0) =
-    ⊎-elim (λ t. inl (let z = eqb-true (suc n) 1 t in omega arith)) (λ t. inr (let z = eqb-false (getD s at 0) 48 (not-true (eqb (getD s at 0) 48) t) in le-ne s at low z)) (or-cases (eqb (suc n) 1) (not (eqb (getD s at 0) 48)) e3) in
-    let w = digits-spelt s at 10 n (omega arith) c h in
+    let e2 = and-right (leb 1 (suc n)) (leb (suc n) mostDigits && (eqb (suc n) 1 || not (eqb (getD s at 0) digitZero))) e in
+    let l = leb-true (suc n) mostDigits (and-left (leb (suc n) mostDigits) (eqb (suc n) 1 || not (eqb (getD s at 0) digitZero)) e2) in
+    let e3 = and-right (leb (suc n) mostDigits) (eqb (suc n) 1 || not (eqb (getD s at 0) digitZero)) e2 in
+    let h : Digits s at (suc n) = λ i li. run-digits s at (suc mostDigits) i (omega arith) in
+    let low : digitZero ≤ getD s at 0 = digit-low (getD s at 0) (rw (add-zero at) at (h 0 (omega arith))) in
+    let c : (n ≡ 0) ⊎ (digitZero < getD s at 0) =
+    ⊎-elim
+    (λ t. inl (let z = eqb-true (suc n) 1 t in omega arith))
+    (λ t. inr (let z = eqb-false (getD s at 0) digitZero (not-true (eqb (getD s at 0) digitZero) t) in le-ne s at low z))
+    (or-cases (eqb (suc n) 1) (not (eqb (getD s at 0) digitZero)) e3) in
+    let w = digits-spelt s at mostDigits n (omega arith) c h in
     record {
       stand = w .stand;
       end = rw (w .long);
@@ -286,25 +291,24 @@ found-by s at (suc n) r e =
       inside = digits-inside s at n h;
     }
   where
-    le-ne : (s : List ℕ) (at : ℕ) → 48 ≤ getD s at 0 → (getD s at 0 ≡ 48 → ⊥) → 48 < getD s at 0
-    le-ne s at l h = ⊎-elim (λ x. x) (λ x. absurd (h (omega arith))) (lt-or-le 48 (getD s at 0))
+    le-ne : (s : List ℕ) (at : ℕ) → digitZero ≤ getD s at 0 → (getD s at 0 ≡ digitZero → ⊥) → digitZero < getD s at 0
+    le-ne s at l h = ⊎-elim (λ x. x) (λ x. absurd (h (omega arith))) (lt-or-le digitZero (getD s at 0))
 
 pub number-found : (s : List ℕ) (at v next : ℕ) → numberAt s at ≡ Parsed.Number v next → NumberFound s at v next
 unfolding numberAt numeral
-number-found s at v next e = ⊎-elim (λ t. good t) (λ f. absurd (bad f)) (cases (numeral s at (digitRun s at 11)))
+number-found s at v next e = ⊎-elim (λ t. good t) (λ f. absurd (bad f)) (cases (numeral s at (digitRun s at (suc mostDigits))))
   where
-    good : numeral s at (digitRun s at 11) ≡ true → NumberFound s at v next
+    good : numeral s at (digitRun s at (suc mostDigits)) ≡ true → NumberFound s at v next
     good t =
-        let q : Parsed.Number (valueOf s at (digitRun s at 11)) (at + digitRun s at 11) ≡ Parsed.Number v next = rw t at e in
-        let qv : valueOf s at (digitRun s at 11) ≡ v = cc in
-        let qn : at + digitRun s at 11 ≡ next = cc in
-        rw (← qv, ← qn) (found-by s at (digitRun s at 11) refl t)
+        let q : Parsed.Number (valueOf s at (digitRun s at (suc mostDigits))) (at + digitRun s at (suc mostDigits)) ≡ Parsed.Number v next = rw t at e in
+        let qv : valueOf s at (digitRun s at (suc mostDigits)) ≡ v = cc in
+        let qn : at + digitRun s at (suc mostDigits) ≡ next = cc in
+        rw (← qv, ← qn) (found-by s at (digitRun s at (suc mostDigits)) refl t)
 
-    bad : numeral s at (digitRun s at 11) ≡ false → ⊥
+    bad : numeral s at (digitRun s at (suc mostDigits)) ≡ false → ⊥
     bad f =
         let q : Parsed.Broken ≡ Parsed.Number v next = rw f at e in
-        let z : _≡_ {A = ℕ} 0 1 = cc in
-        omega arith
+        impossible (cc)
 
 -- ---- digits as the writer meets them
 
@@ -312,26 +316,26 @@ pub digits-none : (k n : ℕ) → k ≡ 0 → digits k n ≡ []
 unfolding digits
 digits-none k n e = rw e
 
-pub digits-one : (k n : ℕ) → (k ≡ 0 → ⊥) → n < 10 → digits k n ≡ (48 + n) ∷ []
+pub digits-one : (k n : ℕ) → (k ≡ 0 → ⊥) → n < 10 → digits k n ≡ (digitZero + n) ∷ []
 digits-one zero n h l = absurd (h refl)
 digits-one (suc k) n h l = digits-small k n l
 
-pub digits-two : (k n : ℕ) → (k ≡ 0 → ⊥) → 10 ≤ n → digits k n ≡ digits (k - 1) (n / 10) ++ ((48 + n % 10) ∷ [])
+pub digits-two : (k n : ℕ) → (k ≡ 0 → ⊥) → 10 ≤ n → digits k n ≡ digits (k - 1) (n / 10) ++ ((digitZero + n % 10) ∷ [])
 digits-two zero n h l = absurd (h refl)
 digits-two (suc k) n h l =
     let p : suc k - 1 ≡ k = omega arith in
     rw p (digits-large k n l)
 
 -- a number that stands there begins with a digit
-pub number-digit : (s : List ℕ) (at v : ℕ) → v < 10_000_000_000 → stands s at (numberText v) ≡ true → isDigit (getD s at 0) ≡ true
+pub number-digit : (s : List ℕ) (at v : ℕ) → v < 10 ^ mostDigits → stands s at (numberText v) ≡ true → isDigit (getD s at 0) ≡ true
 unfolding numberText
 number-digit s at v l e =
-    let w = digits-written s at 10 v l (omega arith) e in
+    let w = digits-written s at mostDigits v l (omega arith) e in
     rw (add-zero at) at (w .all 0 (w .some))
 
 pub digits-some : (k n : ℕ) → 0 < length (digits (suc k) n)
 digits-some k n =
     ⊎-elim
     (λ l. rw (digits-small k n l) (omega arith))
-    (λ l. rw (digits-large k n l, length-append (digits k (n / 10)) ((48 + n % 10) ∷ [])) (omega arith))
+    (λ l. rw (digits-large k n l, length-append (digits k (n / 10)) ((digitZero + n % 10) ∷ [])) (omega arith))
     (lt-or-le n 10)

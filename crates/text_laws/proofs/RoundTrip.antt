@@ -1,8 +1,8 @@
 -- The round trip: what the writer writes of an admissible table is read back as that table. The text stands at its own start, so each line is
 -- read as it was written, the three of the head and the two of each row, and the last row ends where the text does.
-use Prim.Native.Nat.{ℕ, _+_, _*_, _/_, _%_, _^_, _<_, _≤_}
+use Prim.Native.Nat.{ℕ, _+_, _*_, _≤_}
 use mathlib.Core.Path.{_≡_, refl, sym, ap, _∙_}
-use mathlib.Core.Bool.{Bool, true, not}
+use mathlib.Core.Bool.{true}
 use mathlib.Core.List.{List}
 use native.Mathlib.Nat.{lt-of-lt-of-le}
 use native.Mathlib.Omega.{arith}
@@ -10,23 +10,24 @@ use borrow.Author.Tests.{eq-eqb}
 use lib.Pow.{pow-mono}
 use lib.ListN.{length}
 use Rattle.masks.proofs.Bits.{below-lt}
+use Rattle.literals.specs.Literal.{mostVariables}
 use Rattle.rules.specs.declared.Row.{Row}
 use Rattle.rules.specs.declared.HeadRead.{HeadRead}
 use Rattle.rules.specs.declared.TextRead.{TextRead}
-use Rattle.rules.specs.declared.Judged.{Judged}
 use Rattle.rules.specs.declared.Judged.the-variants.{Fine}
 use Rattle.rules.specs.Refusals.{isFine}
 use Rattle.rules.specs.Walk.{mostBudget}
-use Rattle.rules.specs.Table.{rowCount, rowOf, tableWhy}
-use Rattle.rules.specs.Text.{rowsText, tableText}
+use Rattle.rules.specs.Table.{rowCount, rowOf, tableWhy, rowWords, mostRows}
+use Rattle.rules.specs.Text.{rowsText, tableText, firstRowLine}
 use Rattle.rules.specs.Reader.{stands, headAt, rows, rowsAt, restWhy, headWhy, readWhy, readWords, textRead}
+use Rattle.rules.proofs.Judging.{is-fine}
+use Rattle.rules.proofs.Admissible.{RowFine, table-fine}
 use Rattle.text_laws.proofs.Stands.{stands-self}
-use Rattle.text_laws.proofs.Admissible.{RowFine, TableFine, table-fine, fine-is}
 use Rattle.text_laws.proofs.Rows.{Written, rows-read-back}
 use Rattle.text_laws.proofs.Heads.{headText, headEnd, head-length, table-text, head-reads}
 use Rattle.text_laws.proofs.Reading.{to-rest}
 
-fine-written : (n : ℕ) (row : Row) → n ≤ 64 → RowFine n row → Written row
+fine-written : (n : ℕ) (row : Row) → n ≤ mostVariables → RowFine n row → Written row
 fine-written n row h f =
     record {
       positive = lt-of-lt-of-le (below-lt (row .lits .positive) n (f .positive)) (pow-mono h);
@@ -35,36 +36,34 @@ fine-written n row h f =
       light = omega (arith, f .light);
     }
 
-whole-rows : (table : List ℕ) → length table % 3 ≡ 0 → length table ≡ 3 * rowCount table
-unfolding rowCount
-whole-rows table e = omega arith
-
 pub record ReadBack (text : List ℕ) (room n b : ℕ) (table : List ℕ) : Type 0 where
   pub answer : textRead text room ≡ TextRead.Table n b (rowCount table)
   pub fine : readWhy text room ≡ Fine
   pub words : readWords text ≡ table
 
 -- from what the parts are read as
-put-together : (s : List ℕ) (room n b m : ℕ) (table : List ℕ) (next : ℕ) → headAt s ≡ HeadRead.Lines n b m next → n ≤ 64 → b ≤ 4294967295 → m ≤ 512 → 3 * m ≤ room
-    → rowsAt m s next 4 ≡ rows table (length s) → (textRead s room ≡ TextRead.Table n b m) × (readWhy s room ≡ Fine) × (readWords s ≡ table)
+put-together : (s : List ℕ) (room n b m : ℕ) (table : List ℕ) (next : ℕ) → headAt s ≡ HeadRead.Lines n b m next
+    → n ≤ mostVariables → b ≤ mostBudget → m ≤ mostRows → rowWords * m ≤ room
+    → rowsAt m s next firstRowLine ≡ rows table (length s) → (textRead s room ≡ TextRead.Table n b m) × (readWhy s room ≡ Fine) × (readWords s ≡ table)
 unfolding textRead readWhy readWords
 put-together s room n b m table next head ln lb lm lr body =
-    let rest : restWhy s m (rowsAt m s next 4) ≡ Fine = rw (body, eq-eqb (length s) (length s) refl) in
+    let rest : restWhy s m (rowsAt m s next firstRowLine) ≡ Fine = rw (body, eq-eqb (length s) (length s) refl) in
     let why : headWhy s room (HeadRead.Lines n b m next) ≡ Fine = to-rest s room n b m next ln lb lm lr ∙ rest in
     (rw (head, why), rw head why, rw (head, body))
 
 pub round-trip : (n b : ℕ) (table : List ℕ) (room : ℕ) → isFine (tableWhy n table) ≡ true → b ≤ mostBudget → length table ≤ room
     → ReadBack (tableText n b table) room n b table
 round-trip n b table room ok lb lr =
-    let fine = table-fine n table (fine-is (tableWhy n table) ok) in
+    let fine = table-fine n table (is-fine (tableWhy n table) ok) in
     let m = rowCount table in
     let s = tableText n b table in
     let text = rowsText table m in
-    let long = whole-rows table (fine .whole) in
     let stand : stands s 0 (headText n b m text) ≡ true = rw (← table-text n b table) (stands-self s) in
     let head = head-reads s n b m text (omega (arith, fine .variables)) (omega arith) (omega (arith, fine .few)) stand in
     let end : headEnd n b m + length text ≡ length s = sym (ap length (table-text n b table) ∙ head-length n b m text) in
-    let body : rowsAt m s (headEnd n b m) 4 ≡ rows table (length s) =
-    rows-read-back m s (headEnd n b m) 4 table long (λ j l. fine-written n (rowOf table j) (fine .variables) (fine .rows j l)) (head .1) ∙ ap (rows table) end in
-    let w = put-together s room n b m table (headEnd n b m) (head .0) (fine .variables) lb (fine .few) (omega arith) body in
+    let body : rowsAt m s (headEnd n b m) firstRowLine ≡ rows table (length s) =
+    rows-read-back m s (headEnd n b m) firstRowLine table (fine .whole)
+    (λ j l. fine-written n (rowOf table j) (fine .variables) (fine .rows j l)) (head .1)
+    ∙ ap (rows table) end in
+    let w = put-together s room n b m table (headEnd n b m) (head .0) (fine .variables) lb (fine .few) (omega (arith, fine .whole)) body in
     record { answer = w .0; fine = w .1; words = w .2 }

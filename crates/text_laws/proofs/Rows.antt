@@ -1,69 +1,65 @@
 -- Rows. A row is two lines; the rows of a table, one behind the other, are read as its words, and words that are read are those of rows
 -- that stand there, one behind the other.
 use Prim.Native.Nat.{ℕ, zero, suc, _+_, _-_, _*_, _^_, _<_, _≤_}
-use mathlib.Core.Path.{_≡_, refl, sym, ap, subst, _∙_}
-use mathlib.Core.Logic.{_⊎_, inl, inr, ⊎-elim}
-use mathlib.Core.Bool.{Bool, true, false}
+use mathlib.Core.Path.{_≡_, refl, sym, ap, _∙_}
+use mathlib.Core.Logic.{_⊎_, ⊎-elim}
+use mathlib.Core.Bool.{true, false}
 use mathlib.Core.List.{List, [], _∷_, _++_, append-assoc, append-nil}
 use native.Mathlib.Nat.{add-zero}
-use native.Mathlib.Numerals.{add-one}
 use native.Mathlib.Omega.{arith}
 use lib.Bits.{bitAnd}
-use lib.ListN.{length, getD, drop, length-append, drop-of-length-le}
-use lib.Seq.{drop-cons}
-use Rattle.masks.proofs.Choice.{cases}
+use lib.ListN.{length, drop, length-append, drop-of-length-le}
+use Rattle.masks.proofs.Choice.{cases, impossible}
 use Rattle.literals.specs.declared.Lits.{Lits}
+use Rattle.literals.specs.Literal.{mostVariables}
 use Rattle.rules.specs.declared.Row.{Row}
 use Rattle.rules.specs.declared.Parsed.{Parsed}
 use Rattle.rules.specs.declared.Listed.{Listed}
 use Rattle.rules.specs.declared.RowRead.{RowRead}
-use Rattle.rules.specs.Table.{rowIn, rowOf}
-use Rattle.rules.specs.Text.{bytes, numberText, line, litsText, rowText, rowsText}
-use Rattle.rules.specs.Reader.{stands, numberLine, litsLine, rowAt, RowsRead, rows, brokenAt, inFront, rowWordsOf, rowsAt}
+use Rattle.rules.specs.Table.{rowOf, rowWordsOf, rowWords}
+use Rattle.rules.specs.Text.{litsText, rowText, rowsText, lineFeed, rowLines, mostDigits}
+use Rattle.rules.specs.Reader.{stands, numberLine, litsLine, rowAt, RowsRead, rows, brokenAt, inFront, rowsAt}
+use Rattle.text_laws.specs.Pieces.{lineText, listText}
+use Rattle.text_laws.specs.Keys.{weightKey, litsKey}
+use Rattle.text_laws.proofs.Pieces.{row-text}
+use Rattle.text_laws.proofs.RowWords.{row-words, row-front, row-past, row-drop}
 use Rattle.text_laws.proofs.Stands.{stands-none, first-stands, second-stands, both-stand}
-use Rattle.text_laws.proofs.Branches.{weightKey, litsKey, line-of-lits, line-no-lits, row-no-weight, row-no-lits, row-is, rows-next}
-use Rattle.text_laws.proofs.Lines.{lineText, line-text, line-reads, LineFound, line-found}
+use Rattle.text_laws.proofs.Branches.{line-of-lits, line-no-lits, row-no-weight, row-no-lits, row-is, rows-next}
+use Rattle.text_laws.proofs.Lines.{line-reads, line-found}
 use Rattle.text_laws.proofs.Lists.{lits-read}
-use Rattle.text_laws.proofs.ListsFound.{ListFound, lits-spelt}
+use Rattle.text_laws.proofs.ListsFound.{lits-spelt}
 
 -- ---- a line of literals
 
-abbrev pub listText : Lits → List ℕ
-listText l = litsKey ++ (litsText 64 l ++ (10 ∷ []))
+list-end : (at : ℕ) (l : Lits) → at + length (listText l) ≡ at + length litsKey + length (litsText mostVariables l ++ (lineFeed ∷ []))
+list-end at l = rw (length-append litsKey (litsText mostVariables l ++ (lineFeed ∷ []))) (omega arith)
 
-list-end : (at : ℕ) (l : Lits) → at + length (listText l) ≡ at + 5 + length (litsText 64 l ++ (10 ∷ []))
-list-end at l = rw (length-append litsKey (litsText 64 l ++ (10 ∷ []))) (omega arith)
-
-list-reads : (s : List ℕ) (at : ℕ) (l : Lits) → l .positive < 2 ^ 64 → l .negative < 2 ^ 64 → bitAnd (l .positive) (l .negative) ≡ 0
+list-reads : (s : List ℕ) (at : ℕ) (l : Lits) → l .positive < 2 ^ mostVariables → l .negative < 2 ^ mostVariables → bitAnd (l .positive) (l .negative) ≡ 0
     → stands s at (listText l) ≡ true → litsLine s at ≡ Listed.Literals l (at + length (listText l))
 list-reads s at l p n a e =
-    let rest = litsText 64 l ++ (10 ∷ []) in
-    line-of-lits s at (first-stands s at litsKey rest e) ∙ lits-read s (at + 5) l p n a (second-stands s at litsKey rest e) ∙ rw (list-end at l)
+    let rest = litsText mostVariables l ++ (lineFeed ∷ []) in
+    line-of-lits s at (first-stands s at litsKey rest e) ∙ lits-read s (at + length litsKey) l p n a (second-stands s at litsKey rest e) ∙ rw (list-end at l)
 
 list-found : (s : List ℕ) (at : ℕ) (l : Lits) (next : ℕ) → litsLine s at ≡ Listed.Literals l next
     → (stands s at (listText l) ≡ true) × (next ≡ at + length (listText l))
 list-found s at l next e =
     ⊎-elim
     (λ (t : stands s at litsKey ≡ true).
-    let f = lits-spelt s (at + 5) l next (sym (line-of-lits s at t) ∙ e) in
-    (both-stand s at litsKey (litsText 64 l ++ (10 ∷ [])) t (f .stand), f .end ∙ sym (list-end at l)))
+    let f = lits-spelt s (at + length litsKey) l next (sym (line-of-lits s at t) ∙ e) in
+    (both-stand s at litsKey (litsText mostVariables l ++ (lineFeed ∷ [])) t (f .stand), f .end ∙ sym (list-end at l)))
     (λ (t : stands s at litsKey ≡ false).
     let b = line-no-lits s at t in
-    absurd (let y : _≡_ {A = ℕ} 0 1 = cc in omega arith))
+    impossible (cc))
     (cases (stands s at litsKey))
 
 -- ---- a row
 
-row-text : (row : Row) → rowText row ≡ lineText weightKey (row .weight) ++ listText (row .lits)
-unfolding rowText line bytes
-row-text row = rw (line-text weightKey (row .weight))
-
 -- what a row must be to be read back
 pub record Written (row : Row) : Type 0 where
-  pub positive : row .lits .positive < 2 ^ 64
-  pub negative : row .lits .negative < 2 ^ 64
+  pub positive : row .lits .positive < 2 ^ mostVariables
+  pub negative : row .lits .negative < 2 ^ mostVariables
   pub apart : bitAnd (row .lits .positive) (row .lits .negative) ≡ 0
-  pub light : row .weight < 10_000_000_000
+  pub light : row .weight < 10 ^ mostDigits
 
 pub row-reads : (s : List ℕ) (at ln : ℕ) (row : Row) → Written row → stands s at (rowText row) ≡ true
     → rowAt s at ln ≡ RowRead.Lines row (at + length (rowText row))
@@ -84,7 +80,7 @@ row-found s at ln row next e = weighed (numberLine s at weightKey) refl
         → (stands s at (rowText row) ≡ true) × (next ≡ at + length (rowText row))
     listed w m p Listed.Broken q =
         let b = row-no-lits s at ln w m p q in
-        absurd (let y : _≡_ {A = ℕ} 0 1 = cc in omega arith)
+        impossible (cc)
     listed w m p (Listed.Literals l end) q =
         let b = row-is s at ln w m l end p q in
         let wl : _≡_ {A = Row} (record { lits = l; weight = w }) row = cc in
@@ -100,7 +96,7 @@ row-found s at ln row next e = weighed (numberLine s at weightKey) refl
     weighed : (r : Parsed) → numberLine s at weightKey ≡ r → (stands s at (rowText row) ≡ true) × (next ≡ at + length (rowText row))
     weighed Parsed.Broken p =
         let b = row-no-weight s at ln p in
-        absurd (let y : _≡_ {A = ℕ} 0 1 = cc in omega arith)
+        impossible (cc)
     weighed (Parsed.Number w m) p = listed w m p (litsLine s m) refl
 
 -- ---- the rows of a table from row i on
@@ -125,19 +121,14 @@ unfolding rowsText
 rows-all table m = let p : m ≡ 0 + m = omega arith in ap (rowsText table) p ∙ rows-split table m 0
 
 -- the words of all rows are the table
-words-drop : (d i : ℕ) (table : List ℕ) → length table ≡ 3 * (i + d) → wordsFrom d i table ≡ drop (3 * i) table
-unfolding wordsFrom rowWordsOf rowOf rowIn
-words-drop zero i table e = let past : length table ≤ 3 * i = omega arith in sym (drop-of-length-le table past)
+words-drop : (d i : ℕ) (table : List ℕ) → length table ≡ rowWords * (i + d) → wordsFrom d i table ≡ drop (rowWords * i) table
+unfolding wordsFrom rowOf
+words-drop zero i table e = let past : length table ≤ rowWords * i = omega arith in sym (drop-of-length-le table past)
 words-drop (suc d) i table e =
-    let a = 3 * i in
-    let b : a + 1 ≡ suc a = omega arith in
-    let c : a + 2 ≡ suc (suc a) = omega arith in
-    let n : 3 * suc i ≡ suc (suc (suc a)) = omega arith in
-    let ih = words-drop d (suc i) table (omega arith) in
-    let ih2 : wordsFrom d (suc i) table ≡ drop (suc (suc (suc a))) table = rw n at ih in
-    rw (b, c, ih2, drop-cons table a 0 (omega arith), drop-cons table (suc a) 0 (omega arith), drop-cons table (suc (suc a)) 0 (omega arith))
+    let more : rowWords * suc i ≡ rowWords * i + rowWords = omega arith in
+    rw (words-drop d (suc i) table (omega arith), more, row-drop table (rowWords * i) (omega arith))
 
-words-all : (m : ℕ) (table : List ℕ) → length table ≡ 3 * m → wordsFrom m 0 table ≡ table
+words-all : (m : ℕ) (table : List ℕ) → length table ≡ rowWords * m → wordsFrom m 0 table ≡ table
 words-all m table e = words-drop m 0 table (omega arith)
 
 -- rows that are read one by one
@@ -149,47 +140,42 @@ rows-read (suc d) s at ln i table w e =
     let one = rowText (rowOf table i) in
     let more = rowsFrom d (suc i) table in
     let row = row-reads s at ln (rowOf table i) (w i (omega arith) (omega arith)) (first-stands s at one more e) in
-    let ih = rows-read d s (at + length one) (ln + 2) (suc i) table (λ j l h. w j (omega arith) (omega arith)) (second-stands s at one more e) in
+    let ih = rows-read d s (at + length one) (ln + rowLines) (suc i) table (λ j l h. w j (omega arith) (omega arith)) (second-stands s at one more e) in
     rw (row, ih) (ap (rows (rowWordsOf (rowOf table i) ++ wordsFrom d (suc i) table)) (rw (length-append one more) (omega arith)))
 
 -- ---- rows that are found
 
 -- past its first row, words have the rows of what is left
-row-shift : (a b c : ℕ) (more : List ℕ) (i : ℕ) → rowOf (a ∷ b ∷ c ∷ more) (suc i) ≡ rowOf more i
-unfolding rowOf rowIn
-row-shift a b c more i =
-    let p : 3 * suc i ≡ suc (suc (suc (3 * i))) = omega arith in
-    let q : suc (suc (suc (3 * i))) + 1 ≡ suc (suc (suc (3 * i + 1))) = omega arith in
-    let r : suc (suc (suc (3 * i))) + 2 ≡ suc (suc (suc (3 * i + 2))) = omega arith in
-    rw (p, q, r)
+rows-shift : (d : ℕ) (row : Row) (more : List ℕ) (i : ℕ) → rowsFrom d (suc i) (rowWordsOf row ++ more) ≡ rowsFrom d i more
+unfolding rowsFrom rowOf
+rows-shift zero row more i = refl
+rows-shift (suc d) row more i =
+    let next : rowWords * suc i ≡ rowWords + rowWords * i = omega arith in
+    rw (next, row-past row more (rowWords * i), rows-shift d row more (suc i))
 
-rows-shift : (d : ℕ) (a b c : ℕ) (more : List ℕ) (i : ℕ) → rowsFrom d (suc i) (a ∷ b ∷ c ∷ more) ≡ rowsFrom d i more
-unfolding rowsFrom
-rows-shift zero a b c more i = refl
-rows-shift (suc d) a b c more i = rw (row-shift a b c more i, rows-shift d a b c more (suc i))
-
-first-row : (row : Row) (more : List ℕ) → rowOf (row .lits .positive ∷ row .lits .negative ∷ row .weight ∷ more) 0 ≡ row
-unfolding rowOf rowIn
-first-row row more = refl
+first-row : (row : Row) (more : List ℕ) → rowOf (rowWordsOf row ++ more) 0 ≡ row
+unfolding rowOf
+first-row row more = row-front row more
 
 pub record RowsFound (d : ℕ) (s : List ℕ) (at : ℕ) (words : List ℕ) (next : ℕ) : Type 0 where
-  pub long : length words ≡ 3 * d
+  pub long : length words ≡ rowWords * d
   pub stand : stands s at (rowsText words d) ≡ true
   pub end : next ≡ at + length (rowsText words d)
 
 Run : ℕ → List ℕ → ℕ → List ℕ → ℕ → Type 0
-Run d s at words next = (length words ≡ 3 * d) × (stands s at (rowsFrom d 0 words) ≡ true) × (next ≡ at + length (rowsFrom d 0 words))
+Run d s at words next = (length words ≡ rowWords * d) × (stands s at (rowsFrom d 0 words) ≡ true) × (next ≡ at + length (rowsFrom d 0 words))
 
-run-more : (d : ℕ) (s : List ℕ) (at ln : ℕ) (row : Row) (mid : ℕ) (more : List ℕ) (next : ℕ) → rowAt s at ln ≡ RowRead.Lines row mid → Run d s mid more next
-    → Run (suc d) s at (rowWordsOf row ++ more) next
-unfolding Run rowsFrom rowWordsOf
+run-more : (d : ℕ) (s : List ℕ) (at ln : ℕ) (row : Row) (mid : ℕ) (more : List ℕ) (next : ℕ) → rowAt s at ln ≡ RowRead.Lines row mid
+    → Run d s mid more next → Run (suc d) s at (rowWordsOf row ++ more) next
+unfolding Run rowsFrom
 run-more d s at ln row mid more next e w =
     let f = row-found s at ln row mid e in
     let text = rowText row in
-    let first : rowOf (row .lits .positive ∷ row .lits .negative ∷ row .weight ∷ more) 0 ≡ row = first-row row more in
-    let rest = rows-shift d (row .lits .positive) (row .lits .negative) (row .weight) more 0 in
-    let there : stands s (at + length text) (rowsFrom d 0 more) ≡ true = rw (← f .1) (w .1) in
-    (omega (arith, w .0), rw (first, rest) (both-stand s at text (rowsFrom d 0 more) (f .0) there), rw (first, rest) (w .2 ∙ rw (f .1, length-append text (rowsFrom d 0 more)) (omega arith)))
+    let rest = rowsFrom d 0 more in
+    let whole : rowsFrom (suc d) 0 (rowWordsOf row ++ more) ≡ text ++ rest = rw (first-row row more, rows-shift d row more 0) in
+    let there : stands s (at + length text) rest ≡ true = rw (← f .1) (w .1) in
+    let end : next ≡ at + length (text ++ rest) = w .2 ∙ rw (f .1, length-append text rest) (omega arith) in
+    (rw (length-append (rowWordsOf row) more, row-words row) (omega (arith, w .0)), rw whole (both-stand s at text rest (f .0) there), rw whole end)
 
 runs : (d : ℕ) (s : List ℕ) (at ln : ℕ) (words : List ℕ) (next : ℕ) → rowsAt d s at ln ≡ rows words next → Run d s at words next
 unfolding rowsAt Run rowsFrom
@@ -197,31 +183,31 @@ runs zero s at ln words next e =
     let w : [] ≡ words = cc in
     let n : at ≡ next = cc in
     rw (← w, ← n) (omega arith, stands-none s at, sym (add-zero at))
-runs (suc d) s at ln words next e = on-row (rowAt s at ln) refl (λ mid more end. runs d s mid (ln + 2) more end)
+runs (suc d) s at ln words next e = on-row (rowAt s at ln) refl (λ mid more end. runs d s mid (ln + rowLines) more end)
   where
-    behind-row : (row : Row) (mid : ℕ) → rowAt s at ln ≡ RowRead.Lines row mid → (r : RowsRead) → rowsAt d s mid (ln + 2) ≡ r
-        → ((more : List ℕ) (end : ℕ) → rowsAt d s mid (ln + 2) ≡ rows more end → Run d s mid more end) → Run (suc d) s at words next
+    behind-row : (row : Row) (mid : ℕ) → rowAt s at ln ≡ RowRead.Lines row mid → (r : RowsRead) → rowsAt d s mid (ln + rowLines) ≡ r
+        → ((more : List ℕ) (end : ℕ) → rowsAt d s mid (ln + rowLines) ≡ rows more end → Run d s mid more end) → Run (suc d) s at words next
     behind-row row mid p (brokenAt b) q ih =
-        let r = rows-next s 0 d at ln row mid p in
-        let z : inFront (rowWordsOf row) (rowsAt d s mid (ln + 2)) ≡ brokenAt b = rw q in
-        absurd (let y : _≡_ {A = ℕ} 0 1 = cc in omega arith)
+        let r = rows-next s d at ln row mid p in
+        let z : inFront (rowWordsOf row) (rowsAt d s mid (ln + rowLines)) ≡ brokenAt b = rw q in
+        impossible (cc)
     behind-row row mid p (rows more end) q ih =
-        let r = rows-next s 0 d at ln row mid p in
-        let z : inFront (rowWordsOf row) (rowsAt d s mid (ln + 2)) ≡ rows (rowWordsOf row ++ more) end = rw q in
+        let r = rows-next s d at ln row mid p in
+        let z : inFront (rowWordsOf row) (rowsAt d s mid (ln + rowLines)) ≡ rows (rowWordsOf row ++ more) end = rw q in
         let w : rowWordsOf row ++ more ≡ words = cc in
         let n : end ≡ next = cc in
         rw (← w, ← n) (run-more d s at ln row mid more end p (ih more end q))
 
-    on-row : (r : RowRead) → rowAt s at ln ≡ r → ((mid : ℕ) (more : List ℕ) (end : ℕ) → rowsAt d s mid (ln + 2) ≡ rows more end → Run d s mid more end)
+    on-row : (r : RowRead) → rowAt s at ln ≡ r → ((mid : ℕ) (more : List ℕ) (end : ℕ) → rowsAt d s mid (ln + rowLines) ≡ rows more end → Run d s mid more end)
         → Run (suc d) s at words next
     on-row (RowRead.Broken b) p ih =
         let z : rowsAt (suc d) s at ln ≡ brokenAt b = rw p in
-        absurd (let y : _≡_ {A = ℕ} 0 1 = cc in omega arith)
-    on-row (RowRead.Lines row mid) p ih = behind-row row mid p (rowsAt d s mid (ln + 2)) refl (ih mid)
+        impossible (cc)
+    on-row (RowRead.Lines row mid) p ih = behind-row row mid p (rowsAt d s mid (ln + rowLines)) refl (ih mid)
 
 -- ---- the rows' two laws
 
-pub rows-read-back : (m : ℕ) (s : List ℕ) (at ln : ℕ) (table : List ℕ) → length table ≡ 3 * m → ((j : ℕ) → j < m → Written (rowOf table j))
+pub rows-read-back : (m : ℕ) (s : List ℕ) (at ln : ℕ) (table : List ℕ) → length table ≡ rowWords * m → ((j : ℕ) → j < m → Written (rowOf table j))
     → stands s at (rowsText table m) ≡ true → rowsAt m s at ln ≡ rows table (at + length (rowsText table m))
 rows-read-back m s at ln table l w e =
     let all = rows-all table m in

@@ -11,7 +11,7 @@ use native.Mathlib.Omega.{arith}
 use borrow.Author.Tests.{eq-eqb, ne-eqb, eqb-true, ltb-true, ltb-false}
 use lib.Dec.{eqb, ltb}
 use lib.ListN.{length, getD, drop, List·getD-eq-default}
-use lib.Seq.{drop-cons, ext-getD, drop-length}
+use lib.Seq.{drop-cons, ext-getD}
 use Rattle.masks.proofs.Choice.{cases, and-left, and-right, both}
 use Rattle.rules.specs.Reader.{stands}
 

@@ -1,13 +1,12 @@
 -- A key stored byte by byte: what is left of it, stored behind what is, comes to the whole key stored. Where nothing is left, nothing
 -- more is stored.
-use Prim.Native.Nat.{ℕ, zero, suc, _+_, _-_, _*_, _/_, _%_, _<_, _≤_}
-use mathlib.Core.Path.{_≡_, refl, sym, ap, _∙_}
-use mathlib.Core.List.{List, [], _∷_, _++_}
+use Prim.Native.Nat.{ℕ, suc, _+_, _-_, _<_, _≤_}
+use mathlib.Core.Path.{_≡_}
+use mathlib.Core.List.{List}
 use native.Mathlib.Numerals.{add-one}
 use native.Mathlib.Omega.{arith}
-use lib.ListN.{length, getD, drop, set, length-append, drop-of-length-le}
+use lib.ListN.{length, getD, drop, set, drop-of-length-le}
 use lib.Seq.{sets, drop-cons}
-use Rattle.masks.proofs.Words.{sets-append}
 
 -- one byte of a key more, and none left
 pub key-turn : (out : List ℕ) (at : ℕ) (key : List ℕ) (i : ℕ) → i < length key

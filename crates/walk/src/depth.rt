@@ -1,15 +1,14 @@
 // The walk below a node, depth first.
 ghost use mathlib.Core.Path.{_≡_};
-ghost use mathlib.Core.Bool.{true};
 ghost use Rattle.rules.specs.Desk.{variables};
-ghost use Rattle.rules.specs.Bound.{bound};
-ghost use Rattle.rules.specs.Walk.{walk, undecided};
+ghost use Rattle.rules.specs.Walk.{walk, undecided, priceOf, triedFirst};
 ghost use Rattle.bound.specs.Units.{Readable};
 ghost use Rattle.walk.specs.Next.{Next};
 use crate::states::halted;
 use crate::states::kept_at;
 use crate::states::visited;
 use bound::inner::bound_at;
+use rules::Desk;
 use rules::Part;
 use rules::Walked;
 
@@ -24,7 +23,7 @@ fn next(decided: u64) -> u64
 // no variable is left its reading is kept; else the next variable is tried true, then false.
 pub fn walk(desk: &[u64], budget: u64, p: Part, s: Walked) -> Walked
     requires { ⌜ Readable (now desk) ⌝ }
-    ensures { λ r. ⌜ r ≡ walk (bound (now (desk .entry))) (λ v. true) budget (undecided (variables (now (desk .entry))) (p .decided)) p s ⌝ }
+    ensures { λ r. ⌜ r ≡ walk (priceOf (now (desk .entry))) triedFirst budget (undecided (variables (now (desk .entry))) (p .decided)) p s ⌝ }
 {
     if s.nodes >= budget {
         return halted(s);
@@ -35,7 +34,7 @@ pub fn walk(desk: &[u64], budget: u64, p: Part, s: Walked) -> Walked
         return here;
     }
     let v = next(p.decided);
-    if v >= rules::word(desk, 0) {
+    if v >= rules::word(desk, Desk::VARIABLES) {
         return kept_at(bound, p.truths, here);
     }
     let one = walk(desk, budget, p.fixed(v, true), here);

@@ -4,19 +4,20 @@ ghost use Prim.Native.Nat.{_+_, _≤_, _<_, _^_};
 ghost use Rattle.rules.specs.Desk.{weightOn};
 ghost use Rattle.rules.specs.Walk.{visited, keptAt, halted, atStart, statusOf, bestOf, foundBy};
 ghost use Rattle.bound.specs.Units.{Readable};
-use desk::inner::row_on;
 use rules::Best;
+use rules::Desk;
 use rules::Found;
 use rules::Status;
 use rules::Walked;
+use words::inner::row_on;
 
 // Conceded and all weights in use.
 fn weight_on(desk: &[u64]) -> u64
     requires { ⌜ Readable (now desk) ⌝ }
     ensures { λ r. ⌜ r ≡ weightOn (now (desk .entry)) ⌝ }
 {
-    let n = rules::word(desk, 1) as usize;
-    let mut weight = rules::word(desk, 4);
+    let n = rules::word(desk, Desk::IN_USE) as usize;
+    let mut weight = rules::word(desk, Desk::CONCEDED);
     let mut i = 0;
     while i < n {
         let row = row_on(desk, i);

@@ -1,11 +1,14 @@
 -- The laws of the walk as laws of a search's answer. An answer that is found comes of a well-formed desk, and its parts are read off the
--- walk; so done means not stopped, and a reading in the answer means that one is kept.
-use Prim.Native.Nat.{ℕ, _≤_}
+-- walk; so done means not stopped, and a reading in the answer means that one is kept. Two answers for one desk, at two budgets, say when
+-- a search is stopped.
+use Prim.Native.Nat.{ℕ, suc, _^_, _≤_, _<_}
 use mathlib.Core.Path.{_≡_, refl, sym, ap, _∙_, subst}
 use mathlib.Core.List.{List}
 use mathlib.Core.Bool.{Bool, true, false, not}
+use mathlib.Core.Logic.{_↔_, Iff·trans}
 use native.Mathlib.Omega.{arith}
-use Rattle.rules.specs.declared.Walked.{Walked}
+use lib.ListN.{length}
+use Rattle.masks.proofs.Choice.{impossible}
 use Rattle.rules.specs.declared.Status.{Status}
 use Rattle.rules.specs.declared.Best.{Best}
 use Rattle.rules.specs.declared.Found.{Found}
@@ -13,19 +16,15 @@ use Rattle.rules.specs.declared.Refusal.the-variants.{BadDesk}
 use Rattle.rules.specs.declared.Judged.the-variants.{Fine}
 use Rattle.rules.specs.declared.Searched.{Searched}
 use Rattle.rules.specs.Refusals.{refuse}
-use Rattle.rules.specs.Desk.{wellFormed, deskWeighs, keeps}
-use Rattle.rules.specs.Bound.{bound, deskWhy}
-use Rattle.rules.specs.Walk.{walkOf, statusOf, bestOf, foundBy, searchedAs, searched}
-use Rattle.step_laws.proofs.Formed.{formed}
+use Rattle.rules.specs.Desk.{variables, decided, wellFormed, deskWeighs, keeps}
+use Rattle.rules.specs.Bound.{deskWhy}
+use Rattle.rules.specs.Walk.{undecided, priceOf, triedFirst, walkIn, statusOf, bestOf, foundBy, searchedAs, searched}
+use Rattle.desk_laws.proofs.Formed.{formed}
 use Rattle.walk_laws.specs.Right.{Foremost, Right}
 use Rattle.walk_laws.proofs.Done.{bound-sound, search-right}
-use Rattle.walk_laws.proofs.Budgets.{search-counted, search-kept}
+use Rattle.walk_laws.proofs.Budgets.{search-counted, search-kept, search-same, search-nodes, search-stopped-when, search-done-when}
 
 -- ---- reading an answer
-
--- the walk that a search takes
-abbrev pub walkIn : List ℕ → ℕ → Walked
-walkIn d budget = walkOf (bound d) (λ v. true) d budget
 
 -- an answer that is found
 pub found-well : (d : List ℕ) (budget : ℕ) (f : Found) → searched d budget ≡ Searched.Found f → (wellFormed d ≡ true) × (f ≡ foundBy (walkIn d budget))
@@ -34,19 +33,26 @@ found-well d budget f = go (wellFormed d)
   where
     go : (t : Bool) → searchedAs (refuse (not t) BadDesk Fine) (foundBy (walkIn d budget)) ≡ Searched.Found f → (t ≡ true) × (f ≡ foundBy (walkIn d budget))
     go true e = (refl, cc)
-    go false e = let z : _≡_ {A = ℕ} 0 1 = cc in absurd (omega arith)
+    go false e = impossible (cc)
 
 done-running : (t : Bool) → statusOf t ≡ Status.Done → t ≡ false
-done-running true e = let z : _≡_ {A = ℕ} 0 1 = cc in absurd (omega arith)
+done-running true e = impossible (cc)
 done-running false e = refl
 
-stopped-halted : (t : Bool) → statusOf t ≡ Status.Stopped → t ≡ true
+pub stopped-halted : (t : Bool) → statusOf t ≡ Status.Stopped → t ≡ true
 stopped-halted true e = refl
-stopped-halted false e = let z : _≡_ {A = ℕ} 0 1 = cc in absurd (omega arith)
+stopped-halted false e = impossible (cc)
+
+-- the status tells which
+status-stopped : (t : Bool) → (statusOf t ≡ Status.Stopped) ↔ (t ≡ true)
+status-stopped t = (stopped-halted t, ap statusOf)
+
+status-done : (t : Bool) → (statusOf t ≡ Status.Done) ↔ (t ≡ false)
+status-done t = (done-running t, ap statusOf)
 
 reading-kept : (t : Bool) (weight reading w r : ℕ) → bestOf t weight reading ≡ Best.Reading w r → (t ≡ true) × (weight ≡ w) × (reading ≡ r)
 reading-kept true weight reading w r e = (refl, cc, cc)
-reading-kept false weight reading w r e = let z : _≡_ {A = ℕ} 0 1 = cc in absurd (omega arith)
+reading-kept false weight reading w r e = impossible (cc)
 
 module _ (d : List ℕ) (budget : ℕ) (f : Found) (answer : searched d budget ≡ Searched.Found f) where
   well : wellFormed d ≡ true
@@ -57,10 +63,10 @@ module _ (d : List ℕ) (budget : ℕ) (f : Found) (answer : searched d budget �
 
   -- Demand 2: an answer that says done has the foremost reading and its weight.
   pub done-foremost : f .status ≡ Status.Done
-      → (weight : ℕ) × (reading : ℕ) × (f .best ≡ Best.Reading weight reading) × Foremost (deskWeighs d) (λ v. true) d reading weight
+      → (weight : ℕ) × (reading : ℕ) × (f .best ≡ Best.Reading weight reading) × Foremost (deskWeighs d) triedFirst d reading weight
   done-foremost e =
       let w = walkIn d budget in
-      let right : Right (deskWeighs d) (λ v. true) d w = search-right d budget well (done-running (w .stopped) (sym (ap (λ (x : Found). x .status) is) ∙ e)) in
+      let right : Right (deskWeighs d) triedFirst d w = search-right d budget well (done-running (w .stopped) (sym (ap (λ (x : Found). x .status) is) ∙ e)) in
       (w .best, w .reading, ap (λ (x : Found). x .best) is ∙ ap (λ (t : Bool). bestOf t (w .best) (w .reading)) (right .kept), right .foremost)
 
   -- any reading in an answer keeps the decisions and weighs what is said
@@ -69,15 +75,43 @@ module _ (d : List ℕ) (budget : ℕ) (f : Found) (answer : searched d budget �
       let w = walkIn d budget in
       let k = reading-kept (w .kept) (w .best) (w .reading) weight reading (sym (ap (λ (x : Found). x .best) is) ∙ e) in
       let g = formed d well in
-      let r = search-kept (bound d) (deskWeighs d) (λ v. true) d budget g (bound-sound d g) (k .0) in
+      let r = search-kept (priceOf d) (deskWeighs d) triedFirst d budget g (bound-sound d g) (k .0) in
       (subst (λ (x : ℕ). keeps d x ≡ true) (k .2) (r .0), sym (ap (deskWeighs d) (k .2)) ∙ r .1 ∙ k .1)
 
   -- the count is never above the budget, and is the budget where the search is stopped
   pub nodes-most : f .nodes ≤ budget
-  nodes-most = omega (arith, ap (λ (x : Found). x .nodes) is, search-counted (bound d) (λ v. true) d budget .within)
+  nodes-most = omega (arith, ap (λ (x : Found). x .nodes) is, search-counted (priceOf d) triedFirst d budget .within)
 
   pub stopped-nodes : f .status ≡ Status.Stopped → f .nodes ≡ budget
   stopped-nodes e =
       let w = walkIn d budget in
       ap (λ (x : Found). x .nodes) is
-      ∙ search-counted (bound d) (λ v. true) d budget .atStop (stopped-halted (w .stopped) (sym (ap (λ (x : Found). x .status) is) ∙ e))
+      ∙ search-counted (priceOf d) triedFirst d budget .atStop (stopped-halted (w .stopped) (sym (ap (λ (x : Found). x .status) is) ∙ e))
+
+  -- the count is below 2 to the power u + 1, with u undecided variables
+  pub nodes-below : f .nodes < 2 ^ suc (length (undecided (variables d) (decided d)))
+  nodes-below = subst (λ (x : Found). x .nodes < 2 ^ suc (length (undecided (variables d) (decided d)))) (sym is) (search-nodes (priceOf d) triedFirst d budget)
+
+  -- the same desk, searched with a larger budget
+  module _ (more : ℕ) (g : Found) (again : searched d more ≡ Searched.Found g) where
+    then : g ≡ foundBy (walkIn d more)
+    then = found-well d more g again .1
+
+    -- stopped exactly when a node was due at the budget, which the larger one visits; done exactly when none was
+    pub stopped-when : budget < more → (f .status ≡ Status.Stopped) ↔ (budget < g .nodes)
+    stopped-when larger =
+        subst (λ (x : Found). (f .status ≡ Status.Stopped) ↔ (budget < x .nodes)) (sym then)
+        (subst (λ (x : Found). (x .status ≡ Status.Stopped) ↔ (budget < walkIn d more .nodes)) (sym is)
+        (Iff·trans (status-stopped (walkIn d budget .stopped)) (search-stopped-when (priceOf d) triedFirst d budget more larger)))
+
+    pub done-when : budget < more → (f .status ≡ Status.Done) ↔ (g .nodes ≤ budget)
+    done-when larger =
+        subst (λ (x : Found). (f .status ≡ Status.Done) ↔ (x .nodes ≤ budget)) (sym then)
+        (subst (λ (x : Found). (x .status ≡ Status.Done) ↔ (walkIn d more .nodes ≤ budget)) (sym is)
+        (Iff·trans (status-done (walkIn d budget .stopped)) (search-done-when (priceOf d) triedFirst d budget more larger)))
+
+    -- a search that is done answers the same with a larger budget
+    pub done-same : budget ≤ more → f .status ≡ Status.Done → g ≡ f
+    done-same larger e =
+        let running : walkIn d budget .stopped ≡ false = done-running (walkIn d budget .stopped) (sym (ap (λ (x : Found). x .status) is) ∙ e) in
+        then ∙ ap foundBy (search-same (priceOf d) triedFirst d budget more larger running) ∙ sym is

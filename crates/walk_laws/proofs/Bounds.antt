@@ -19,7 +19,7 @@ use Rattle.rules.specs.declared.Part.{Part}
 use Rattle.rules.specs.Table.{holds, givenUp}
 use Rattle.rules.specs.Desk.{variables, inUse, conceded, rowOn, satisfied, remnant, deskWeighs, weightOn}
 use Rattle.rules.specs.Bound.{weightWhere, lostBeyond, lost, unitWeight, foreseenAt, foreseen, bound}
-use Rattle.step_laws.proofs.Formed.{Sound}
+use Rattle.desk_laws.proofs.Formed.{Sound}
 use Rattle.walk_laws.specs.Sound.{Extends}
 use Rattle.walk_laws.proofs.Remnants.{unit, missedAt, holds-split, holds-empty, empty-missed, row-once}
 
@@ -47,7 +47,8 @@ module _ (d : List ℕ) (p : Part) (reading : ℕ) (extends : Extends p reading)
       go false = min-le-left (unitWeight d p (unit v true)) (unitWeight d p (unit v false))
 
   -- summed by rows
-  foreseen-rows : foreseen d p ≤ sum (inUse d) (λ i. sum (variables d) (λ v. cond (has (p .decided) v) 0 (weightWhere (sameLits (missedAt reading v)) p (rowOn d i))))
+  foreseen-rows : foreseen d p ≤ sum (inUse d)
+      (λ i. sum (variables d) (λ v. cond (has (p .decided) v) 0 (weightWhere (sameLits (missedAt reading v)) p (rowOn d i))))
   unfolding foreseen unitWeight
   foreseen-rows =
       rw (sym (sum-swap (variables d) (inUse d) (λ v i. cond (has (p .decided) v) 0 (weightWhere (sameLits (missedAt reading v)) p (rowOn d i)))))

@@ -1,26 +1,28 @@
--- A search at any budget, stopped or not: the count keeps the budget, what is kept is the best of the leaves met, and it keeps the
--- decisions and weighs what is said. With a larger budget a search that is done stays as it is, and what is kept never gets worse.
--- The bound of document 01 takes no more nodes than lost alone.
+-- A search at any budget, stopped or not: the count keeps the budget, what is kept is the best of the first leaves, and of those met, and it
+-- keeps the decisions and weighs what is said. It is stopped exactly when a larger budget visits more nodes. With a larger budget a search
+-- that is done stays as it is, and what is kept never gets worse. The bound of document 01 takes no more nodes than lost alone.
 use Prim.Native.Nat.{ℕ, suc, _+_, _^_, _≤_, _<_}
 use mathlib.Core.Path.{_≡_, refl, sym, ap, _∙_, subst}
 use mathlib.Core.List.{List, List·Memᴰ, List·Memᴰ·head, Memᴰ·append-right}
 use mathlib.Core.Bool.{Bool, true, false}
-use mathlib.Core.Logic.{_⊎_, ⊎-elim}
+use mathlib.Core.Logic.{_⊎_, _↔_, ⊎-elim}
 use native.Mathlib.Omega.{arith}
 use lib.ListN.{length}
-use Rattle.masks.proofs.Choice.{clash}
+use Rattle.masks.proofs.Choice.{cases, clash}
 use Rattle.rules.specs.declared.Part.{Part}
+use Rattle.rules.specs.declared.Walked.{Walked}
 use Rattle.rules.specs.Desk.{variables, decided, truths, wellFormed, weightOn, decisions, keeps}
 use Rattle.rules.specs.Bound.{lost, bound}
 use Rattle.rules.specs.Walk.{undecided, atStart, walkOf}
-use Rattle.walk_laws.specs.Scan.{Chosen, chosen, scan, met, Least, WithinBudget}
+use Rattle.walk_laws.specs.Scan.{leaves, Chosen, chosen, scan, met, Least, Reached, WithinBudget}
 use Rattle.walk_laws.specs.Sound.{Sound, Node}
 use Rattle.walk_laws.proofs.Scans.{scan-outcome}
 use Rattle.walk_laws.proofs.Walks.{leaf-below}
 use Rattle.walk_laws.proofs.Counting.{counted, at-most, same-with-more}
+use Rattle.walk_laws.proofs.Reaching.{reached, due-entered}
 use Rattle.walk_laws.proofs.Fewer.{Within, fewer-nodes}
 use Rattle.walk_laws.proofs.Meeting.{never-worse, kept-with-more, member-of-sublist, met-leaves, walk-met-weights}
-use Rattle.step_laws.proofs.Formed.{Formed, formed}
+use Rattle.desk_laws.proofs.Formed.{Formed, formed}
 use Rattle.walk_laws.proofs.Done.{root, leaf-keeps, bound-sound, lost-sound}
 
 -- ---- stopped or not
@@ -37,6 +39,13 @@ search-counted b first d budget =
 
 module _ (b : Part → ℕ) (weight : ℕ → ℕ) (first : ℕ → Bool) (d : List ℕ) (budget : ℕ) (f : Formed d)
     (sound : Sound (Node (variables d)) b weight) where
+  -- what is kept is the best of the first leaves: of all where the search is done, else of those in front of the node that was due
+  pub search-reached :
+      Reached (λ q. weight (q .truths)) (leaves first (undecided (variables d) (decided d)) (decisions d)) (chosen (atStart d)) (walkOf b first d budget)
+  unfolding walkOf atStart
+  search-reached =
+      reached b first budget sound (undecided (variables d) (decided d)) (decisions d) (atStart d) (root d f) refl (start-within d budget)
+
   -- what is kept is the best of the leaves met by that count
   pub search-met :
       chosen (walkOf b first d budget)
@@ -61,7 +70,8 @@ module _ (b : Part → ℕ) (weight : ℕ → ℕ) (first : ℕ → Bool) (d : L
       let best : walkOf b first d budget .best ≡ weight (leaf .truths) = ap (λ (c : Chosen). c .best) (search-met ∙ l .isKept) in
       let member : List·Memᴰ leaf qs =
       subst (λ (rs : List Part). List·Memᴰ leaf rs) (sym (l .stands)) (Memᴰ·append-right (l .front) (List·Memᴰ·head refl)) in (
-        ap (keeps d) reading ∙ leaf-keeps d f leaf (leaf-below first lefts (decisions d) leaf (member-of-sublist (met-leaves b first budget lefts (decisions d) (atStart d)) member)),
+        ap (keeps d) reading ∙ leaf-keeps d f leaf
+            (leaf-below first lefts (decisions d) leaf (member-of-sublist (met-leaves b first budget lefts (decisions d) (atStart d)) member)),
         ap weight reading ∙ sym best,
       ))
       (scan-outcome price qs (chosen (atStart d)))
@@ -83,6 +93,24 @@ pub search-same : (b : Part → ℕ) (first : ℕ → Bool) (d : List ℕ) (budg
 unfolding walkOf
 search-same b first d budget more h =
     same-with-more b first budget more h (undecided (variables d) (decided d)) (decisions d) (atStart d)
+
+-- a search is stopped exactly when a node was due at the budget, which a larger budget visits, and done exactly when none was
+module _ (b : Part → ℕ) (first : ℕ → Bool) (d : List ℕ) (budget more : ℕ) (larger : budget < more) where
+  pub search-due : walkOf b first d budget .stopped ≡ true → budget < walkOf b first d more .nodes
+  unfolding walkOf atStart
+  search-due = due-entered b first budget more larger (undecided (variables d) (decided d)) (decisions d) (atStart d) refl (start-within d budget)
+
+  pub search-none-due : walkOf b first d budget .stopped ≡ false → walkOf b first d more .nodes ≤ budget
+  search-none-due e =
+      omega (arith, ap (λ (w : Walked). w .nodes) (search-same b first d budget more (omega arith) e), search-counted b first d budget .within)
+
+  pub search-stopped-when : (walkOf b first d budget .stopped ≡ true) ↔ (budget < walkOf b first d more .nodes)
+  search-stopped-when =
+      (search-due, λ l. ⊎-elim (λ t. t) (λ t. absurd (omega (arith, search-none-due t))) (cases (walkOf b first d budget .stopped)))
+
+  pub search-done-when : (walkOf b first d budget .stopped ≡ false) ↔ (walkOf b first d more .nodes ≤ budget)
+  search-done-when =
+      (search-none-due, λ l. ⊎-elim (λ t. absurd (omega (arith, search-due t))) (λ t. t) (cases (walkOf b first d budget .stopped)))
 
 -- the count is below 2 to the power u + 1, with u undecided variables
 pub search-nodes : (b : Part → ℕ) (first : ℕ → Bool) (d : List ℕ) (budget : ℕ)

@@ -17,7 +17,7 @@ use Rattle.rules.specs.declared.Part.{Part}
 use Rattle.rules.specs.declared.Walked.{Walked}
 use Rattle.rules.specs.Desk.{variables, decided, truths, wellFormed, weightOn, decisions, deskWeighs, keeps}
 use Rattle.rules.specs.Bound.{lost, bound}
-use Rattle.rules.specs.Walk.{undecided, atStart, walkOf}
+use Rattle.rules.specs.Walk.{undecided, atStart, walkOf, priceOf, triedFirst, walkIn}
 use Rattle.walk_laws.specs.Scan.{leaves, Chosen, chosen, scan, Least}
 use Rattle.walk_laws.specs.Sound.{Below, Sound, Node}
 use Rattle.walk_laws.specs.Order.{Before, Earlier}
@@ -25,7 +25,7 @@ use Rattle.walk_laws.specs.Right.{Right, NoneBelow}
 use Rattle.walk_laws.proofs.Scans.{scan-outcome, least-of-all}
 use Rattle.walk_laws.proofs.Walks.{leaf-below, below-leaf, finished}
 use Rattle.walk_laws.proofs.Bounds.{lost-below, lost-at-leaf, bound-below, bound-at-leaf, weighs-most}
-use Rattle.step_laws.proofs.Formed.{Formed, formed}
+use Rattle.desk_laws.proofs.Formed.{Formed, formed}
 use Rattle.walk_laws.proofs.Nodes.{node-truths, node-full, node-itself, node-deeper, leaf-node, leaf-extends, leaf-of}
 use Rattle.walk_laws.proofs.Orders.{earlier-before, earlier-behind}
 
@@ -101,7 +101,8 @@ module _ (b : Part → ℕ) (weight : ℕ → ℕ) (first : ℕ → Bool) (d : L
               omega (arith, least-of-all l (x .0) (below-leaf first (x .1)), ap weight (x .2));
           firstOf = λ r h s.
               let x = keeps-leaf d f r h in
-              let split : List·Memᴰ (x .0) (l .front ++ (leaf ∷ l .rest)) = subst (λ (qs : List Part). List·Memᴰ (x .0) qs) (l .stands) (below-leaf first (x .1)) in
+              let split : List·Memᴰ (x .0) (l .front ++ (leaf ∷ l .rest)) =
+              subst (λ (qs : List Part). List·Memᴰ (x .0) qs) (l .stands) (below-leaf first (x .1)) in
               ⊎-elim
               (λ m. absurd (omega (arith, l .inFront (x .0) m, ap weight (x .2))))
               (λ m.
@@ -118,7 +119,8 @@ module _ (b : Part → ℕ) (weight : ℕ → ℕ) (first : ℕ → Bool) (d : L
       }
 
   -- A finished walk kept the foremost reading, or none is below the best that it starts with.
-  pub finished-outcome : walkOf b first d budget .stopped ≡ false → NoneBelow weight d (walkOf b first d budget) ⊎ Right weight first d (walkOf b first d budget)
+  pub finished-outcome : walkOf b first d budget .stopped ≡ false
+      → NoneBelow weight d (walkOf b first d budget) ⊎ Right weight first d (walkOf b first d budget)
   unfolding walkOf atStart chosen
   finished-outcome e =
       let start : Chosen = chosen (atStart d) in
@@ -145,8 +147,8 @@ module _ (b : Part → ℕ) (weight : ℕ → ℕ) (first : ℕ → Bool) (d : L
       (finished-outcome e)
 
 -- Demand 2: for every well-formed desk and every budget, by the bound of document 01, true before false.
-pub search-right : (d : List ℕ) (budget : ℕ) → wellFormed d ≡ true → walkOf (bound d) (λ v. true) d budget .stopped ≡ false
-    → Right (deskWeighs d) (λ v. true) d (walkOf (bound d) (λ v. true) d budget)
+pub search-right : (d : List ℕ) (budget : ℕ) → wellFormed d ≡ true → walkIn d budget .stopped ≡ false
+    → Right (deskWeighs d) triedFirst d (walkIn d budget)
 search-right d budget h =
     let f = formed d h in
-    finished-right (bound d) (deskWeighs d) (λ v. true) d budget f (bound-sound d f) (weighs-most d)
+    finished-right (priceOf d) (deskWeighs d) triedFirst d budget f (bound-sound d f) (weighs-most d)

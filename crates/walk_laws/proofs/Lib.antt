@@ -1,6 +1,7 @@
 pub mod Scans
 pub mod Branches
 pub mod Walks
+pub mod Reaching
 pub mod Counting
 pub mod Meeting
 pub mod Fewer

@@ -35,7 +35,8 @@ positive-split a d r =
 
 negative-split : (a d r : ℕ) → without a r ≡ bitOr (bitAnd a (without d (bitAnd r d))) (without (without a d) r)
 negative-split a d r =
-    has-ext (λ v. simp (has-and, has-or, has-without) (same3 (λ x y z. x && not z) (λ x y z. x && (y && not (z && y)) || x && not y && not z) tt (has a v) (has d v) (has r v)))
+    has-ext (λ v. simp (has-and, has-or, has-without)
+    (same3 (λ x y z. x && not z) (λ x y z. x && (y && not (z && y)) || x && not y && not z) tt (has a v) (has d v) (has r v)))
 
 pub holds-split : (p : Part) (reading : ℕ) (l : Lits) → Extends p reading → holds l reading ≡ (satisfied p l || holds (remnant p l) reading)
 unfolding holds satisfied remnant

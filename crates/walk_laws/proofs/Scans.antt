@@ -123,7 +123,8 @@ scan-outcome weight (q ∷ qs) c =
     (lt-or-le (weight q) (c .best))
 
 -- from a best that some leaf is below, a leaf is kept
-pub scan-least : (weight : Part → ℕ) (qs : List Part) (c : Chosen) (q : Part) → List·Memᴰ q qs → weight q < c .best → Least weight qs (c .best) (scan weight qs c)
+pub scan-least : (weight : Part → ℕ) (qs : List Part) (c : Chosen) (q : Part) → List·Memᴰ q qs → weight q < c .best
+    → Least weight qs (c .best) (scan weight qs c)
 scan-least weight qs c q m h =
     ⊎-elim
     (λ (n : (scan weight qs c ≡ c) × ((r : Part) → List·Memᴰ r qs → c .best ≤ weight r)). absurd (omega (arith, n .1 q m)))
@@ -131,7 +132,8 @@ scan-least weight qs c q m h =
     (scan-outcome weight qs c)
 
 -- what is kept is the least of all
-pub least-of-all : {weight : Part → ℕ} {qs : List Part} {best : ℕ} {c : Chosen} (l : Least weight qs best c) (q : Part) → List·Memᴰ q qs → weight (l .leaf) ≤ weight q
+pub least-of-all : {weight : Part → ℕ} {qs : List Part} {best : ℕ} {c : Chosen} (l : Least weight qs best c) (q : Part) → List·Memᴰ q qs
+    → weight (l .leaf) ≤ weight q
 least-of-all {weight} {qs} l q m =
     let split : List·Memᴰ q (l .front ++ (l .leaf ∷ l .rest)) = subst (λ (rs : List Part). List·Memᴰ q rs) (l .stands) m in
     ⊎-elim

@@ -3,8 +3,9 @@
 use Prim.Native.Nat.{ℕ, _≤_, _<_}
 use mathlib.Core.Path.{_≡_}
 use mathlib.Core.List.{List, [], _∷_, _++_, List·Memᴰ}
-use mathlib.Core.Bool.{Bool, true, cond, not}
+use mathlib.Core.Bool.{Bool, true, false, cond, not}
 use lib.Dec.{leb, ltb}
+use lib.ListN.{length}
 use Rattle.rules.specs.declared.Part.{Part}
 use Rattle.rules.specs.declared.Walked.{Walked}
 use Rattle.rules.specs.Walk.{fixed, visited, walk}
@@ -51,6 +52,16 @@ met bound first budget (v ∷ vs) p s =
     let two = met bound first budget vs (fixed p v (not (first v))) other in
     let both = one ++ two in
     cond (ltb (s .nodes) budget) (cond (leb (s .best) (bound p)) [] both) []
+
+-- How far a walk has come, from what was chosen before it: of all leaves it has seen, or cut, the front ones, and what it has chosen is the
+-- best of these. Where it is not stopped these are all leaves; where it is, those below the node that was due are left at least.
+pub record Reached (weight : Part → ℕ) (all : List Part) (c : Chosen) (w : Walked) : Type 0 where
+  pub front : List Part
+  pub rest : List Part
+  pub split : all ≡ front ++ rest
+  pub isBest : chosen w ≡ scan weight front c
+  pub whole : w .stopped ≡ false → rest ≡ []
+  pub someLeft : w .stopped ≡ true → 1 ≤ length rest
 
 -- The count is at most the budget, and is the budget where the walk is stopped.
 pub record WithinBudget (budget : ℕ) (s : Walked) : Type 0 where

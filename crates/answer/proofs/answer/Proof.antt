@@ -1,11 +1,11 @@
 -- `answer` meets its contract: the lines are counted first, then refused for want of room, or stored.
-use mathlib.Core.Path.{_≡_, refl, sym, ap, _∙_}
+use mathlib.Core.Path.{ap, _∙_}
 use native.Mathlib.Nat.{zero-add}
 use lib.ListN.{length}
 use lib.Seq.{sets}
+use borrow.Author.Needs.{needs}
 use Rattle.rules.specs.declared.Written.{Written}
 use Rattle.answer.proofs.Answering.{no-room, room}
-use borrow.Author.Needs.{needs}
 use Rattle.answer.proofs.answer.Statement.{statement}
 use Rattle.answer.proofs.answer.Tie as tie
 
@@ -22,7 +22,7 @@ returns : tie.Need-returns
 returns c =
     let a = c .before .before .before .before .before .before .before .args in
     let says = c .before .before .before .before .outcome-of .ensures in
-    let long = (c .before .before .put-outcome .ensures .0 ∙ zero-add _) ∙ ap length (says .lines) in
+    let long = (c .before .before .put-outcome .ensures .place ∙ zero-add _) ∙ ap length (says .lines) in
     no-room (a .input .now) (a .output .now) (rw long at (c .if1 .taken))
 
 put-outcome-requires-2 : tie.Need-put-outcome-requires-2
@@ -35,9 +35,9 @@ returns-2 : tie.Need-returns-2
 returns-2 c =
     let a = c .before .before .before .before .before .before .before .before .before .before .before .args in
     let says = c .before .before .before .before .before .before .before .before .outcome-of .ensures in
-    let long = (c .before .before .before .before .before .before .put-outcome .ensures .0 ∙ zero-add _) ∙ ap length (says .lines) in
+    let long = (c .before .before .before .before .before .before .put-outcome .ensures .place ∙ zero-add _) ∙ ap length (says .lines) in
     let fine = room (a .input .now) (a .output .now) (rw long at (c .before .before .before .before .if1 .left)) in
-    (ap Written.Bytes long ∙ fine .0, (c .before .before .put-outcome2 .ensures .1 ∙ ap (sets (a .output .now) 0) (says .lines)) ∙ fine .1)
+    (ap Written.Bytes long ∙ fine .0, (c .before .before .put-outcome2 .ensures .bytes ∙ ap (sets (a .output .now) 0) (says .lines)) ∙ fine .1)
 
 pub answer-spec : {M : Type 1} → statement M
 answer-spec =

@@ -1,14 +1,14 @@
 -- `again` meets its contract: a text that is read keeps its figures within their limits, and its words, which stand at the front of the
 -- table, are what is written.
 use Prim.Native.Nat.{_*_}
-use mathlib.Core.Path.{_≡_, sym, ap, _∙_}
+use mathlib.Core.Path.{sym, ap, _∙_}
 use native.Mathlib.Omega.{arith}
 use lib.ListN.{take, replicate, length-take}
+use borrow.Author.Needs.{needs}
 use Rattle.rules.specs.Table.{rowWords, mostRows}
-use Rattle.answer.proofs.Answering.{ReadFine, read-fine, front-words}
+use Rattle.text_laws.proofs.Found.{ReadFine, read-fine, front-words}
 use Rattle.copy.specs.Copied.{lengthOf}
 use Rattle.copy.proofs.Copies.{not-read, read}
-use borrow.Author.Needs.{needs}
 use Rattle.copy.proofs.again.Statement.{statement}
 use Rattle.copy.proofs.again.Tie as tie
 
@@ -64,7 +64,7 @@ returns-2 c =
     let start = wrote .before .before .before .before .before .before .before .before .before .before .before in
     let input = start .args .input .now in
     let h = sym (call .0) ∙ given .1 in
-    let words = ap (take (3 * given .0 .1 .1 .0)) (call .1) ∙ front-words input (replicate (rowWords * mostRows) 0) _ _ _ h in
+    let words = ap (take (rowWords * given .0 .1 .1 .0)) (call .1) ∙ front-words input (replicate (rowWords * mostRows) 0) _ _ _ h in
     let by = read input (start .args .output .now) _ _ _ _ h words in
     (c .length-of .ensures ∙ ap lengthOf (wrote .write .ensures .0) ∙ by .0, wrote .write .ensures .1 ∙ by .1)
 

@@ -1,8 +1,8 @@
 -- `main` is safe: what it lends lies within what it has.
 use native.Mathlib.Omega.{arith}
 use lib.ListN.{length-take}
-use Rattle.copy.proofs.Copies.{copied}
 use borrow.Author.Needs.{needs}
+use Rattle.copy.proofs.Copies.{copied}
 use Rattle.copy.proofs.main.Statement.{statement}
 use Rattle.copy.proofs.main.Tie as tie
 

@@ -14,9 +14,6 @@ slice-aggregate-read-full c = search needs
 read-full-requires : tie.Need-read-full-requires
 read-full-requires c κs = search needs
 
-drop-rest-requires : tie.Need-drop-rest-requires
-drop-rest-requires c κs = search needs
-
 array-share-prefix-input : tie.Need-array-share-prefix-input
 array-share-prefix-input c = search needs
 
@@ -38,6 +35,9 @@ slice-aggregate-write-all c = simp length-take (omega (arith, c .before .before 
 write-all-requires : tie.Need-write-all-requires
 write-all-requires c κs = search needs
 
+drop-rest-requires : tie.Need-drop-rest-requires
+drop-rest-requires c κs = search needs
+
 returns : tie.Need-returns
 returns c = search needs
 
@@ -48,7 +48,6 @@ main-spec =
     kept-requires
     slice-aggregate-read-full
     read-full-requires
-    drop-rest-requires
     array-share-prefix-input
     slice-aggregate-reply
     slice-aggregate-reply-2
@@ -56,4 +55,5 @@ main-spec =
     array-share-prefix-output
     slice-aggregate-write-all
     write-all-requires
+    drop-rest-requires
     returns)

@@ -1,9 +1,9 @@
 -- `reply` meets its contract: bytes with room for every answer are never refused, and hold the answer at their front.
-use Prim.Native.Nat.{ℕ, _≤_}
-use mathlib.Core.Path.{_≡_, sym, ap, _∙_}
+use mathlib.Core.Path.{_≡_, ap, _∙_}
 use native.Mathlib.Omega.{arith}
 use borrow.Author.Needs.{needs}
 use lib.ListN.{length, take}
+use Rattle.masks.proofs.Choice.{impossible}
 use Rattle.rules.specs.Program.{answer}
 use Rattle.answer.proofs.Lengths.{answer-length, always-written, at-front}
 use Rattle.solve.proofs.reply.Statement.{statement}
@@ -28,7 +28,7 @@ returns c =
     let written = always-written (a .input .now) (a .output .now) (start .pre) in
     let call = c .before .before .before .before .answer .ensures .0 in
     let told = c .enum-told .given .1 in
-    absurd (let no : _≡_ {A = ℕ} 0 1 = cc in omega arith)
+    impossible (cc)
 
 same-length-2 : tie.Need-same-length-2
 same-length-2 c = search needs

@@ -9,20 +9,20 @@ use Rattle.rules.specs.declared.Walked.{Walked}
 use Rattle.rules.specs.declared.Found.{Found}
 use Rattle.rules.specs.declared.Searched.{Searched}
 use Rattle.rules.specs.Desk.{variables, decided, wellFormed, decisions}
-use Rattle.rules.specs.Bound.{bound, deskWhy}
-use Rattle.rules.specs.Walk.{walk, undecided, atStart, walkOf, foundBy, searched}
+use Rattle.rules.specs.Bound.{deskWhy}
+use Rattle.rules.specs.Walk.{walk, undecided, atStart, walkOf, priceOf, triedFirst, foundBy, searched}
 use Rattle.bound.proofs.Fits.{readable}
 use Rattle.walk.proofs.search.Statement.{statement}
 use Rattle.walk.proofs.search.Tie as tie
 
 -- what the calls leave is the search's definition
 accepted : (d : List ℕ) (budget : ℕ) → wellFormed d ≡ true → (start end : Walked) (p : Part) (found : Found) → start ≡ atStart d → p ≡ decisions d
-    → end ≡ walk (bound d) (λ v. true) budget (undecided (variables d) (p .decided)) p start → found ≡ foundBy end → Searched.Found found ≡ searched d budget
+    → end ≡ walk (priceOf d) triedFirst budget (undecided (variables d) (p .decided)) p start → found ≡ foundBy end → Searched.Found found ≡ searched d budget
 unfolding searched deskWhy walkOf decisions
 accepted d budget h start end p found s e w f =
     rw h
     (ap (λ (x : Found). Searched.Found x)
-    (f ∙ ap foundBy (w ∙ ap₂ (λ (q : Part) (x : Walked). walk (bound d) (λ v. true) budget (undecided (variables d) (q .decided)) q x) e s)))
+    (f ∙ ap foundBy (w ∙ ap₂ (λ (q : Part) (x : Walked). walk (priceOf d) triedFirst budget (undecided (variables d) (q .decided)) q x) e s)))
 
 well-formed-requires : tie.Need-well-formed-requires
 well-formed-requires c κs = search needs

@@ -1,11 +1,14 @@
 -- `outcome_of` meets its contract: too long, not read, or searched. A text that is read keeps its figures within their limits, and its
 -- words stand at the front of the table.
-use mathlib.Core.Path.{_≡_, refl, sym, ap, _∙_}
+use Prim.Native.Nat.{ℕ, _*_}
+use mathlib.Core.Path.{refl, ap, _∙_}
 use native.Mathlib.Omega.{arith}
-use Prim.Native.Nat.{_*_}
-use lib.ListN.{take, replicate, length-take}
-use Rattle.answer.proofs.Answering.{read-fine, front-words, too-long, not-read, read}
 use borrow.Author.Needs.{needs}
+use lib.ListN.{take, replicate, length-take}
+use Rattle.rules.specs.Table.{rowWords, mostRows}
+use Rattle.text_laws.proofs.Matched.{matched}
+use Rattle.text_laws.proofs.Found.{ReadFine, read-fine, front-words}
+use Rattle.answer.proofs.Answering.{too-long, not-read, read}
 use Rattle.answer.proofs.outcomes.outcome_of.Statement.{statement}
 use Rattle.answer.proofs.outcomes.outcome_of.Tie as tie
 
@@ -32,50 +35,49 @@ refused-requires-2 c κs = search needs
 enum-known-variables : tie.Need-enum-known-variables
 enum-known-variables c = search needs
 
+-- at the figures that were read
+fine : (c : tie.After-known-told2)
+    → ReadFine (c .before .before .before .before .before .before .before .before .args .input .now) (rowWords * mostRows)
+    (c .before .variables .given .0 .0) (c .before .variables .given .0 .1 .0) (c .before .variables .given .0 .1 .1 .0)
+fine c = read-fine _ _ _ _ _ (matched (c .before .before .before .before .read .ensures .0) (c .before .variables .given .1))
+
 mul-n : tie.Need-mul-n
-mul-n c =
-    let input = c .before .before .before .before .before .before .before .before .args .input .now in
-    let fine = read-fine input _ _ _ _ (sym (c .before .before .before .before .read .ensures .0) ∙ c .before .variables .given .1) in
-    omega (arith, fine .few)
+mul-n c = omega (arith, fine c .few)
 
 cast-search-table : tie.Need-cast-search-table
-cast-search-table c =
-    let input = c .before .before .before .before .before .before .before .before .args .input .now in
-    let fine = read-fine input _ _ _ _ (sym (c .before .before .before .before .read .ensures .0) ∙ c .before .variables .given .1) in
-    omega (arith, fine .budget)
+cast-search-table c = omega (arith, fine c .budget)
 
 array-share-prefix-table : tie.Need-array-share-prefix-table
-array-share-prefix-table c =
-    let input = c .before .before .before .before .before .before .before .before .args .input .now in
-    let fine = read-fine input _ _ _ _ (sym (c .before .before .before .before .read .ensures .0) ∙ c .before .variables .given .1) in
-    omega (arith, fine .few, c .before .before .before .before .read .kept .1 .0)
+array-share-prefix-table c = omega (arith, fine c .few, c .before .before .before .before .read .kept .1 .0)
 
 slice-aggregate-search-table : tie.Need-slice-aggregate-search-table
 slice-aggregate-search-table c =
-    let input = c .before .before .before .before .before .before .before .before .before .args .input .now in
-    let fine = read-fine input _ _ _ _ (sym (c .before .before .before .before .before .read .ensures .0) ∙ c .before .before .variables .given .1) in
-    simp length-take (omega (arith, fine .few, c .before .before .before .before .before .read .kept .1 .0))
+    simp length-take (omega (arith, fine (c .before) .few, c .before .before .before .before .before .read .kept .1 .0))
 
 search-table-requires : tie.Need-search-table-requires
-search-table-requires c κs =
-    let input = c .before .before .before .before .before .before .before .before .before .args .input .now in
-    let fine = read-fine input _ _ _ _ (sym (c .before .before .before .before .before .read .ensures .0) ∙ c .before .before .variables .given .1) in
-    (fine .variables, fine .few)
+search-table-requires c κs = (fine (c .before) .variables, fine (c .before) .few)
 
 returns-2 : tie.Need-returns-2
 returns-2 c =
     let says = c .refused2 .ensures in
-    let start = c .before .before .before .before .before .before .before .before .before in
-    record { counted = says .counted; lines = says .lines ∙ not-read (start .args .input .now) (c .before .before .before .before .before .before .before .if1 .left) _ _ refl (sym (c .before .before .before .before .before .read .ensures .0) ∙ c .before .before .why .given .1) }
+    let call = c .before .before .before .before .before in
+    let short = call .before .before in
+    let input = short .before .before .args .input .now in
+    let told = matched (call .read .ensures .0) (c .before .before .why .given .1) in
+    record { counted = says .counted; lines = says .lines ∙ not-read input (short .if1 .left) _ _ refl told }
 
 returns-3 : tie.Need-returns-3
 returns-3 c =
     let says = c .search-table .ensures in
-    let input = c .before .before .before .before .before .before .before .before .before .before .args .input .now in
-    let call = c .before .before .before .before .before .before .read .ensures in
-    let rows = c .before .before .before .variables .given .0 .1 .1 .0 in
-    let h = sym (call .0) ∙ c .before .before .before .variables .given .1 in
-    record { counted = says .counted; lines = says .lines ∙ read input (c .before .before .before .before .before .before .before .before .if1 .left) _ _ _ _ _ refl h (ap (take (3 * rows)) (call .1) ∙ front-words input (replicate 1536 0) _ _ _ h) }
+    let found = c .before .before .before in
+    let call = found .before .before .before in
+    let short = call .before .before in
+    let input = short .before .before .args .input .now in
+    let told = matched (call .read .ensures .0) (found .variables .given .1) in
+    let table = replicate {A = ℕ} (rowWords * mostRows) 0 in
+    let rows = found .variables .given .0 .1 .1 .0 in
+    let words = ap (take (rowWords * rows)) (call .read .ensures .1) ∙ front-words input table _ _ _ told in
+    record { counted = says .counted; lines = says .lines ∙ read input (short .if1 .left) _ _ _ _ _ refl told words }
 
 pub outcome-of-spec : {M : Type 1} → statement M
 outcome-of-spec =

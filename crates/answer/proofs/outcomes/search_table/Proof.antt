@@ -1,11 +1,12 @@
 -- `search_table` meets its contract: the front of an array of zeros is the desk of zeros that the definition has.
-use mathlib.Core.Path.{_≡_, refl, sym, ap, _∙_}
-use Prim.Native.Nat.{_+_, _*_}
+use Prim.Native.Nat.{ℕ, _≤_}
+use mathlib.Core.Path.{_≡_, sym, ap, _∙_}
 use native.Mathlib.Omega.{arith}
-use lib.ListN.{length, length-replicate}
+use borrow.Author.Needs.{needs}
+use lib.ListN.{length, take, replicate, length-replicate}
+use Rattle.rules.specs.Table.{mostRows}
 use Rattle.rules.specs.Desk.{rowPlace, deskWords}
 use Rattle.answer.proofs.Answering.{take-zeros}
-use borrow.Author.Needs.{needs}
 use Rattle.answer.proofs.outcomes.search_table.Statement.{statement}
 use Rattle.answer.proofs.outcomes.search_table.Tie as tie
 
@@ -21,16 +22,22 @@ add-n-2 c = search needs
 array-borrow-prefix-desk : tie.Need-array-borrow-prefix-desk
 array-borrow-prefix-desk c = search needs
 
+-- the desk's own words, of those of the longest
+front : (rows : ℕ) → rows ≤ mostRows → take (deskWords rows) (replicate {A = ℕ} (deskWords mostRows) 0) ≡ replicate (deskWords rows) 0
+unfolding deskWords rowPlace
+front rows few = take-zeros (deskWords rows) (deskWords mostRows) (omega arith)
+
 slice-aggregate-search-on : tie.Need-slice-aggregate-search-on
+unfolding deskWords rowPlace
 slice-aggregate-search-on c =
-    let rows = c .before .before .args .rows in
-    sym (ap length (take-zeros (8 + 3 * rows + 4096) 5640 (omega (arith, c .before .before .pre .1))) ∙ simp length-replicate)
+    let start = c .before .before in
+    sym (ap length (front (start .args .rows) (start .pre .1)) ∙ simp length-replicate)
 
 search-on-requires : tie.Need-search-on-requires
 unfolding deskWords rowPlace
 search-on-requires c κs =
-    let rows = c .before .before .args .rows in
-    (c .before .before .pre .0, take-zeros (8 + 3 * rows + 4096) 5640 (omega (arith, c .before .before .pre .1)))
+    let start = c .before .before in
+    (start .pre .0, front (start .args .rows) (start .pre .1))
 
 returns : tie.Need-returns
 returns c = search needs

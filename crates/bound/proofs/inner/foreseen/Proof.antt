@@ -32,7 +32,12 @@ add-sum : tie.Need-add-sum Inv-loop μ-loop
 add-sum c =
     let s = c .before .before .before .before .before in
     let l = c .before .before .loop in
-    omega (arith, c .foreseen-by .ensures, foreseen-next (s .args .desk .now) (s .pre) (s .args .p) (l .v) (omega (arith, s .pre .bits, c .before .before .before .word .ensures)))
+    omega (
+      arith,
+      c .foreseen-by .ensures,
+      foreseen-next (s .args .desk .now) (s .pre) (s .args .p) (l .v)
+          (omega (arith, s .pre .bits, c .before .before .before .word .ensures)),
+    )
 
 add-v : tie.Need-add-v Inv-loop μ-loop
 add-v c = omega arith

@@ -46,7 +46,8 @@ add-lost c =
     omega (
       arith,
       added c,
-      rows-fit (s .args .desk .now) (s .pre) (s .args .p) isEmpty (c .before .before .before .loop .i) (omega (arith, c .before .before .before .before .word .ensures)),
+      rows-fit (s .args .desk .now) (s .pre) (s .args .p) isEmpty (c .before .before .before .loop .i)
+          (omega (arith, c .before .before .before .before .word .ensures)),
     )
 
 add-i : tie.Need-add-i Inv-loop μ-loop

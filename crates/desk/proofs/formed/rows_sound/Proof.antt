@@ -35,7 +35,8 @@ bad-lits-requires c κs = search needs
 
 -- what this row is found to be
 gave : (c : tie.After-bad-lits Inv-loop μ-loop)
-    → not (c .bad-lits .result) ≡ sound (c .before .before .before .before .before .args .desk .now) (c .before .before .before .before .before .args .variables) (c .before .before .before .loop .i)
+    → not (c .bad-lits .result) ≡ sound (c .before .before .before .before .before .args .desk .now)
+    (c .before .before .before .before .before .args .variables) (c .before .before .before .loop .i)
 gave c =
     let a = c .before .before .before .before .before .args in
     ap not (c .bad-lits .ensures ∙ ap (λ (r : Row). badLits (a .variables) (r .lits)) (c .before .row-on .ensures))

@@ -5,7 +5,7 @@ use mathlib.Core.List.{List}
 use native.Mathlib.Omega.{arith}
 use lib.ListN.{length, take, length-set}
 use lib.Seq.{sets, take-length}
-use Rattle.desk.proofs.Laid.{copied-more}
+use Rattle.masks.proofs.Words.{copied-more}
 use Rattle.desk.proofs.lay.copy.Statement.{statement}
 use Rattle.desk.proofs.lay.copy.Tie as tie
 

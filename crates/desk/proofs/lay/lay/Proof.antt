@@ -30,14 +30,18 @@ add-used c = search needs
 
 sub-zero : tie.Need-sub-zero
 unfolding deskWords rowPlace
-sub-zero c = omega (arith, c .before .before .before .before .before .before .before .before .before .desk-words .ensures)
+sub-zero c =
+    let at-desk-words = c .before .before .before .before .before .before .before .before .before in
+    omega (arith, at-desk-words .desk-words .ensures)
 
 zero-requires : tie.Need-zero-requires
 unfolding deskWords rowPlace
 zero-requires c κs =
-    let one = simp length-sets at (ap length (c .before .before .before .before .before .before .before .lay-head .ensures)) in
+    let at-lay-head = c .before .before .before .before .before .before .before in
+    let at-desk-words = c .before .before .before .before .before .before .before .before .before in
+    let one = simp length-sets at (ap length (at-lay-head .lay-head .ensures)) in
     let two = simp length-sets at (ap length (c .before .before .before .copy .ensures)) in
-    omega (arith, one, two, c .before .before .before .before .before .before .before .before .before .desk-words .ensures)
+    omega (arith, one, two, at-desk-words .desk-words .ensures)
 
 same-length : tie.Need-same-length
 same-length c = search needs
@@ -45,12 +49,22 @@ same-length c = search needs
 returns : tie.Need-returns
 unfolding rowCount
 returns c =
-    let a = c .before .before .before .before .before .before .before .before .before .before .before .before .before .before .before .args in
-    let p = c .before .before .before .before .before .before .before .before .before .before .before .before .before .before .before .pre in
-    let head = c .before .before .before .before .before .before .before .before .before .before .lay-head .ensures in
+    let a =
+    let start = c .before .before .before .before .before .before .before .before .before .before .before .before .before .before .before in
+    start .args in
+    let p =
+    let start = c .before .before .before .before .before .before .before .before .before .before .before .before .before .before .before in
+    start .pre in
+    let head =
+    let at-lay-head = c .before .before .before .before .before .before .before .before .before .before in
+    at-lay-head .lay-head .ensures in
     let table = c .before .before .before .before .before .before .copy .ensures in
-    let k = c .before .before .before .before .before .before .before .before .before .before .before .before .desk-words .result in
-    let end = c .before .before .before .before .before .before .before .before .before .before .before .before .desk-words .ensures in
+    let k =
+    let at-desk-words = c .before .before .before .before .before .before .before .before .before .before .before .before in
+    at-desk-words .desk-words .result in
+    let end =
+    let at-desk-words = c .before .before .before .before .before .before .before .before .before .before .before .before in
+    at-desk-words .desk-words .ensures in
     c .before .before .zero .ensures
     ∙ ap (λ (e : List ℕ). zeroed e (8 + length (a .table .now)) (k - (8 + length (a .table .now)))) (table ∙ ap (λ (e : List ℕ). sets e 8 (a .table .now)) head)
     ∙ rw end (laid-whole (a .variables) (a .capacity) (a .table .now) (a .desk .now) (p .1 .0) (p .1 .1))

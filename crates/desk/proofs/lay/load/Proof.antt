@@ -24,13 +24,18 @@ unfolding loadDesk
 returns c =
     let a = c .before .before .before .before .before .before .args in
     let why = c .before .before .load-why .ensures in
-    let e = c .enum-told2 .given .1 in
-    (why, sym (words-refused (loadWhy (a .variables) (a .table .now) (a .capacity) (a .desk .now)) (loadStep (a .variables) (a .table .now) (a .capacity) (a .desk .now)) (a .desk .now) _ (sym why ∙ e)))
+    let e = c .enum-told2 .given .1 in (
+      why,
+      sym (words-refused (loadWhy (a .variables) (a .table .now) (a .capacity) (a .desk .now))
+          (loadStep (a .variables) (a .table .now) (a .capacity) (a .desk .now)) (a .desk .now) _ (sym why ∙ e)),
+    )
 
 lay-requires : tie.Need-lay-requires
 lay-requires c κs =
     let a = c .before .before .before .before .before .before .before .args in
-    let room = load-room (a .variables) (a .table .now) (a .capacity) (a .desk .now) (sym (c .before .before .before .load-why .ensures) ∙ c .before .enum-told .given .1) in
+    let room =
+    load-room (a .variables) (a .table .now) (a .capacity) (a .desk .now)
+    (sym (c .before .before .before .load-why .ensures) ∙ c .before .enum-told .given .1) in
     (room .0, (room .1, room .2))
 
 same-length-2 : tie.Need-same-length-2
@@ -43,7 +48,9 @@ returns-2 c =
     let why = c .before .before .before .before .before .before .load-why .ensures in
     let e = c .before .before .before .before .enum-told .given .1 in (
       sym (sym why ∙ e),
-      c .before .before .lay .ensures ∙ sym (words-fine (loadWhy (a .variables) (a .table .now) (a .capacity) (a .desk .now)) (loadStep (a .variables) (a .table .now) (a .capacity) (a .desk .now)) (a .desk .now) (sym why ∙ e)),
+      c .before .before .lay .ensures
+          ∙ sym (words-fine (loadWhy (a .variables) (a .table .now) (a .capacity) (a .desk .now))
+          (loadStep (a .variables) (a .table .now) (a .capacity) (a .desk .now)) (a .desk .now) (sym why ∙ e)),
     )
 
 pub load-spec : {M : Type 1} → statement M

@@ -8,7 +8,7 @@ use Rattle.masks.proofs.Choice.{or-right}
 use Rattle.literals.specs.Literal.{mostVariables}
 use Rattle.rules.specs.Table.{rowWords, rowCount}
 use Rattle.rules.specs.Desk.{mostCapacity, deskWords, loadWhy}
-use Rattle.desk.specs.Judge.{rowsAndSumWhy}
+use Rattle.tables.specs.Judge.{rowsAndSumWhy}
 use borrow.Author.Needs.{needs}
 use Rattle.desk.proofs.lay.load_why.Statement.{statement}
 use Rattle.desk.proofs.lay.load_why.Tie as tie
@@ -30,7 +30,12 @@ returns-3 : tie.Need-returns-3
 unfolding loadWhy rowCount
 returns-3 c =
     let a = c .before .before .before .before .before .before .args in
-    rw (le-ltb mostVariables (a .variables) (c .before .before .before .if1 .left), sym (c .before .before .bad-table .ensures) ∙ c .before .if2 .left, c .if3 .taken)
+    rw (
+      le-ltb mostVariables (a .variables) (c .before .before .before .if1 .left),
+      sym (c .before .before .bad-table .ensures)
+          ∙ c .before .if2 .left,
+      c .if3 .taken,
+    )
 
 desk-words-requires : tie.Need-desk-words-requires
 desk-words-requires c κs =
@@ -43,7 +48,14 @@ returns-4 c =
     let a = c .before .before .before .before .before .before .before .before .args in
     let b = c .before .before .before .before in
     let room = lt-ltb (length (a .desk .now)) (c .before .desk-words .result) (c .if4 .taken) in
-    rw (le-ltb mostVariables (a .variables) (b .before .if1 .left), sym (b .bad-table .ensures) ∙ c .before .before .before .if2 .left, c .before .before .if3 .left, ← c .before .desk-words .ensures, room)
+    rw (
+      le-ltb mostVariables (a .variables) (b .before .if1 .left),
+      sym (b .bad-table .ensures)
+          ∙ c .before .before .before .if2 .left,
+      c .before .before .if3 .left,
+      ← c .before .desk-words .ensures,
+      room,
+    )
 
 rows-and-sum-requires : tie.Need-rows-and-sum-requires
 rows-and-sum-requires c κs = search needs
@@ -54,7 +66,14 @@ returns-5 c =
     let a = c .before .before .before .before .before .before .before .before .before .args in
     let b = c .before .before .before .before .before in
     let room = le-ltb (length (a .desk .now)) (c .before .before .desk-words .result) (c .before .if4 .left) in
-    rw (le-ltb mostVariables (a .variables) (b .before .if1 .left), sym (b .bad-table .ensures) ∙ c .before .before .before .before .if2 .left, c .before .before .before .if3 .left, ← c .before .before .desk-words .ensures, room)
+    rw (
+      le-ltb mostVariables (a .variables) (b .before .if1 .left),
+      sym (b .bad-table .ensures)
+          ∙ c .before .before .before .before .if2 .left,
+      c .before .before .before .if3 .left,
+      ← c .before .before .desk-words .ensures,
+      room,
+    )
     (c .rows-and-sum .ensures)
 
 pub load-why-spec : {M : Type 1} → statement M

@@ -2,7 +2,7 @@
 use mathlib.Core.Path.{_≡_, sym, ap, _∙_}
 use mathlib.Core.Bool.{true, false}
 use borrow.Author.Needs.{needs}
-use Rattle.literals.specs.Literal.{isLiteral, made}
+use Rattle.literals.specs.Literal.{isLiteral, offered}
 use Rattle.literals.proofs.Signed.{back}
 use Rattle.literals.proofs.Literal.new.Statement.{statement}
 use Rattle.literals.proofs.Literal.new.Tie as tie
@@ -11,7 +11,7 @@ is-literal-requires : tie.Need-is-literal-requires
 is-literal-requires c κs = search needs
 
 returns : tie.Need-returns
-unfolding made
+unfolding offered
 returns c =
     let z = c .before .before .args .value in
     let same = back z (c .before .before .fits .value) in
@@ -19,7 +19,7 @@ returns c =
     rw (same, yes)
 
 returns-2 : tie.Need-returns-2
-unfolding made
+unfolding offered
 returns-2 c =
     let z = c .before .before .args .value in
     let same = back z (c .before .before .fits .value) in

@@ -27,7 +27,16 @@ mul-result c =
 add-result : tie.Need-add-result
 add-result c =
     let e = ap placeIn (c .before .before .before .j .given .1) in
-    record { fits = omega (arith, c .place .ensures, c .before .number .ensures, number-small (c .before .before .before .j .given .0 .0) .1, c .before .before .before .before .before .pre, e) }
+    record {
+      fits = omega (
+        arith,
+        c .place .ensures,
+        c .before .number .ensures,
+        number-small (c .before .before .before .j .given .0 .0) .1,
+        c .before .before .before .before .before .pre,
+        e,
+      );
+    }
 
 returns : tie.Need-returns
 returns c = search needs

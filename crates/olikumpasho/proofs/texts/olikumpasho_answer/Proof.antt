@@ -13,7 +13,8 @@ enum-known-why : tie.Need-enum-known-why
 enum-known-why c = search needs
 
 tell-requires : tie.Need-tell-requires
-tell-requires c κs = as-small (sym (ap byWritten (sym (c .before .before .before .before .before .answer .ensures .0) ∙ c .before .why .given .1))) (answered-small _ _)
+tell-requires c κs =
+    as-small (sym (ap byWritten (sym (c .before .before .before .before .before .answer .ensures .0) ∙ c .before .why .given .1))) (answered-small _ _)
 
 enum-known-n : tie.Need-enum-known-n
 enum-known-n c = search needs

@@ -13,7 +13,8 @@ enum-known-r : tie.Need-enum-known-r
 enum-known-r c = search needs
 
 tell-requires : tie.Need-tell-requires
-tell-requires c κs = as-small (sym (ap byTextRead (sym (c .before .before .before .before .before .read .ensures .0) ∙ c .before .r .given .1))) (read-small _ _)
+tell-requires c κs =
+    as-small (sym (ap byTextRead (sym (c .before .before .before .before .before .read .ensures .0) ∙ c .before .r .given .1))) (read-small _ _)
 
 enum-known-variables : tie.Need-enum-known-variables
 enum-known-variables c = search needs

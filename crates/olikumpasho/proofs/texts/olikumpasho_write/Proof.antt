@@ -13,7 +13,8 @@ enum-known-r : tie.Need-enum-known-r
 enum-known-r c = search needs
 
 tell-requires : tie.Need-tell-requires
-tell-requires c κs = as-small (sym (ap byWritten (sym (c .before .before .before .before .before .write .ensures .0) ∙ c .before .r .given .1))) (written-small _ _ _ _)
+tell-requires c κs =
+    as-small (sym (ap byWritten (sym (c .before .before .before .before .before .write .ensures .0) ∙ c .before .r .given .1))) (written-small _ _ _ _)
 
 enum-known-n : tie.Need-enum-known-n
 enum-known-n c = search needs

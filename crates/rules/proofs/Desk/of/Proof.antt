@@ -30,7 +30,19 @@ word-requires-8 c κs = search needs
 
 returns : tie.Need-returns
 unfolding headOf
-returns c = rw (c .before .before .before .before .before .before .before .word .ensures, c .before .before .before .before .before .before .word2 .ensures, c .before .before .before .before .before .word3 .ensures, c .before .before .before .before .word4 .ensures, c .before .before .before .word5 .ensures, c .before .before .word6 .ensures, c .before .word7 .ensures, c .word8 .ensures)
+returns c =
+    let at-word = c .before .before .before .before .before .before .before in
+    rw (
+      at-word .word .ensures,
+      c .before .before .before .before .before .before .word2 .ensures,
+      c .before .before .before .before .before .word3 .ensures,
+      c .before .before .before .before .word4 .ensures,
+      c .before .before .before .word5 .ensures,
+      c .before .before .word6 .ensures,
+      c .before .word7 .ensures,
+      c .word8 .ensures,
+    )
 
 pub of-spec : {M : Type 1} → statement M
-of-spec = tie.close (tie.spec word-requires word-requires-2 word-requires-3 word-requires-4 word-requires-5 word-requires-6 word-requires-7 word-requires-8 returns)
+of-spec =
+    tie.close (tie.spec word-requires word-requires-2 word-requires-3 word-requires-4 word-requires-5 word-requires-6 word-requires-7 word-requires-8 returns)

@@ -12,8 +12,7 @@ use lib.ListN.{length}
 use Rattle.rules.specs.declared.Part.{Part}
 use Rattle.rules.specs.declared.Walked.{Walked}
 use Rattle.rules.specs.Desk.{variables}
-use Rattle.rules.specs.Bound.{bound}
-use Rattle.rules.specs.Walk.{fixed, visited, keptAt, walk, undecided}
+use Rattle.rules.specs.Walk.{fixed, visited, keptAt, walk, undecided, priceOf, triedFirst}
 use Rattle.bound.specs.Units.{Readable}
 use Rattle.walk.specs.Next.{Next}
 use Rattle.walk_laws.proofs.Branches.{walk-refused, walk-cut}
@@ -78,7 +77,8 @@ returns : (t : ℕ) → lts.Need-returns (calls t) (walk-at t) walk-reads.Post
 returns t c =
     let a = c .before .before .before .before .args in
     c .halted .ensures
-    ∙ sym (walk-refused (bound (a .desk .now)) (λ v. true) (a .budget) (undecided (variables (a .desk .now)) (a .p .decided)) (a .p) (a .s) (omega (arith, c .before .if1 .taken)))
+    ∙ sym (walk-refused (priceOf (a .desk .now)) triedFirst (a .budget) (undecided (variables (a .desk .now)) (a .p .decided)) (a .p) (a .s)
+    (omega (arith, c .before .if1 .taken)))
 
 visited-requires : (t : ℕ) → lts.Need-visited-requires (calls t) (walk-at t) walk-reads.Post
 visited-requires t c κs =
@@ -94,7 +94,7 @@ returns-2 t c =
     let b = c .before .before in
     let a = b .before .before .before .before .before .args in
     b .before .visited .ensures
-    ∙ sym (walk-cut (bound (a .desk .now)) (λ v. true) (a .budget) (undecided (variables (a .desk .now)) (a .p .decided)) (a .p) (a .s)
+    ∙ sym (walk-cut (priceOf (a .desk .now)) triedFirst (a .budget) (undecided (variables (a .desk .now)) (a .p .decided)) (a .p) (a .s)
     (omega (arith, b .before .before .if1 .left))
     (omega (arith, c .if2 .taken, b .bound-at .ensures)))
 
@@ -116,7 +116,7 @@ returns-3 t c =
     let d = a .desk .now in
     c .kept-at .ensures
     ∙ ap₂ (λ (w : ℕ) (x : Walked). keptAt w (a .p .truths) x) (b .bound-at .ensures) (b .before .visited .ensures)
-    ∙ at-leaf (variables d) (n .next .result) (s .pre .1 .bits) (a .p) (n .next .ensures) (bound d) (a .budget) (a .s)
+    ∙ at-leaf (variables d) (n .next .result) (s .pre .1 .bits) (a .p) (n .next .ensures) (priceOf d) triedFirst (a .budget) (a .s)
     (omega (arith, b .before .before .if1 .left))
     (omega (arith, n .before .if2 .left, b .bound-at .ensures))
     (omega (arith, c .before .if3 .taken, c .before .before .word .ensures))
@@ -151,7 +151,7 @@ returns-4 t c =
     let s = b .before .before .before .before .before in
     let a = s .args in
     let d = a .desk .now in
-    both-branches (variables d) (n .next .result) (s .pre .1 .bits) (a .p) (n .next .ensures) (bound d) (a .budget) (a .s)
+    both-branches (variables d) (n .next .result) (s .pre .1 .bits) (a .p) (n .next .ensures) (priceOf d) triedFirst (a .budget) (a .s)
     (omega (arith, b .before .before .if1 .left))
     (omega (arith, n .before .if2 .left, b .bound-at .ensures))
     (omega (arith, f .before .if3 .left, f .before .before .word .ensures))

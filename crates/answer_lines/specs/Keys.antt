@@ -1,0 +1,30 @@
+-- The keys of an answer, and the lines of it that are known, as bytes: what the code spells.
+use Prim.Native.Nat.{ℕ}
+use mathlib.Core.List.{List, [], _∷_}
+
+abbrev pub refusedLine : List ℕ
+refusedLine = 115 ∷ 116 ∷ 97 ∷ 116 ∷ 117 ∷ 115 ∷ 61 ∷ 114 ∷ 101 ∷ 102 ∷ 117 ∷ 115 ∷ 101 ∷ 100 ∷ 10 ∷ []
+
+abbrev pub doneLine : List ℕ
+doneLine = 115 ∷ 116 ∷ 97 ∷ 116 ∷ 117 ∷ 115 ∷ 61 ∷ 100 ∷ 111 ∷ 110 ∷ 101 ∷ 10 ∷ []
+
+abbrev pub stoppedLine : List ℕ
+stoppedLine = 115 ∷ 116 ∷ 97 ∷ 116 ∷ 117 ∷ 115 ∷ 61 ∷ 115 ∷ 116 ∷ 111 ∷ 112 ∷ 112 ∷ 101 ∷ 100 ∷ 10 ∷ []
+
+abbrev pub noWeightLine : List ℕ
+noWeightLine = 119 ∷ 101 ∷ 105 ∷ 103 ∷ 104 ∷ 116 ∷ 61 ∷ 110 ∷ 111 ∷ 110 ∷ 101 ∷ 10 ∷ []
+
+abbrev pub noReadingLine : List ℕ
+noReadingLine = 114 ∷ 101 ∷ 97 ∷ 100 ∷ 105 ∷ 110 ∷ 103 ∷ 61 ∷ 110 ∷ 111 ∷ 110 ∷ 101 ∷ 10 ∷ []
+
+abbrev pub numberKey : List ℕ
+numberKey = 110 ∷ 117 ∷ 109 ∷ 98 ∷ 101 ∷ 114 ∷ 61 ∷ []
+
+abbrev pub placeKey : List ℕ
+placeKey = 112 ∷ 108 ∷ 97 ∷ 99 ∷ 101 ∷ 61 ∷ []
+
+abbrev pub nodesKey : List ℕ
+nodesKey = 110 ∷ 111 ∷ 100 ∷ 101 ∷ 115 ∷ 61 ∷ []
+
+abbrev pub readingKey : List ℕ
+readingKey = 114 ∷ 101 ∷ 97 ∷ 100 ∷ 105 ∷ 110 ∷ 103 ∷ 61 ∷ []

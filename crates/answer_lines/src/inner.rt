@@ -1,0 +1,69 @@
+// Each line where the one before it ends. A variable that is counted has a bit in a reading.
+ghost use mathlib.Core.Path.{_≡_};
+ghost use Prim.Native.Nat.{_+_, _≤_, _^_};
+ghost use Rattle.literals.specs.Literal.{mostVariables};
+ghost use Rattle.rules.specs.Text.{line};
+ghost use Rattle.rules.specs.Program.{refusalText, statusText, weightText, foundText};
+ghost use Rattle.pieces_written.specs.Stored.{Stored};
+ghost use Rattle.answer_lines.specs.Lines.{searchedText};
+ghost use Rattle.answer_lines.specs.Lengths.{mostWeightLine};
+use crate::readings;
+use pieces_written::inner;
+use rules::Best;
+use rules::Found;
+use rules::Refusal;
+use rules::Searched;
+use rules::Status;
+
+fn put_refusal(out: &mut [u8], why: Refusal) -> usize
+    ensures { λ r. ⌜ Stored (now (out .entry)) 0 (refusalText why) r (now (out .exit)) ⌝ }
+{
+    let number = why.number();
+    let place = why.place();
+    let second = inner::put_key(out, 0, b"status=refused\n");
+    let third = inner::put_number_line(out, second, b"number=", number);
+    inner::put_number_line(out, third, b"place=", place)
+}
+
+fn put_status(out: &mut [u8], status: Status) -> usize
+    ensures { λ r. ⌜ Stored (now (out .entry)) 0 (line "status=" (statusText status)) r (now (out .exit)) ⌝ }
+{
+    match status {
+        Status::Done => inner::put_key(out, 0, b"status=done\n"),
+        Status::Stopped => inner::put_key(out, 0, b"status=stopped\n"),
+    }
+}
+
+fn put_weight(out: &mut [u8], at: usize, best: Best) -> usize
+    requires { ⌜ at + mostWeightLine ≤ 2 ^ 32 ⌝ }
+    ensures { λ r. ⌜ Stored (now (out .entry)) at (line "weight=" (weightText best)) r (now (out .exit)) ⌝ }
+{
+    match best {
+        Best::Nothing => inner::put_key(out, at, b"weight=none\n"),
+        Best::Reading { weight, reading: _ } => inner::put_number_line(out, at, b"weight=", weight),
+    }
+}
+
+fn put_found(out: &mut [u8], variables: u64, found: Found) -> usize
+    requires { ⌜ variables ≤ mostVariables ⌝ }
+    ensures { λ r. ⌜ Stored (now (out .entry)) 0 (foundText variables found) r (now (out .exit)) ⌝ }
+{
+    let status = found.status;
+    let best = found.best;
+    let nodes = found.nodes;
+    let second = put_status(out, status);
+    let third = put_weight(out, second, best);
+    let fourth = inner::put_number_line(out, third, b"nodes=", nodes);
+    readings::put_reading(out, fourth, variables, best)
+}
+
+// What a search of so many variables came to.
+pub fn put_outcome(out: &mut [u8], variables: u64, searched: Searched) -> usize
+    requires { ⌜ variables ≤ mostVariables ⌝ }
+    ensures { λ r. ⌜ Stored (now (out .entry)) 0 (searchedText variables searched) r (now (out .exit)) ⌝ }
+{
+    match searched {
+        Searched::Refused(why) => put_refusal(out, why),
+        Searched::Found(found) => put_found(out, variables, found),
+    }
+}

@@ -1,0 +1,13 @@
+-- `put_if` meets its contract: the test chooses.
+use borrow.Author.Needs.{needs}
+use Rattle.deciding.proofs.inner.put_if.Statement.{statement}
+use Rattle.deciding.proofs.inner.put_if.Tie as tie
+
+returns : tie.Need-returns
+returns c = rw (c .if1 .taken)
+
+returns-2 : tie.Need-returns-2
+returns-2 c = rw (c .if1 .left)
+
+pub put-if-spec : {M : Type 1} → statement M
+put-if-spec = tie.close (tie.spec returns returns-2)

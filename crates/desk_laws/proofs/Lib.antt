@@ -1,0 +1,6 @@
+pub mod Rows
+pub mod Formed
+pub mod Stores
+pub mod Weights
+pub mod Readings
+pub mod Verdicts

@@ -1,0 +1,3 @@
+pub mod Chains
+pub mod Counts
+pub mod Namings

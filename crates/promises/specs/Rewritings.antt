@@ -1,0 +1,53 @@
+-- Demand 2 of a rewriting: the step table of document 01 and the paragraph above it, of the desk before and after, word by word.
+use Prim.Native.Nat.{ℕ, suc, _+_, _-_, _*_, _≤_, _<_}
+use mathlib.Core.Path.{_≡_}
+use mathlib.Core.List.{List, [], _∷_, _++_}
+use mathlib.Core.Logic.{_↔_}
+use lib.ListN.{length, getD, take, drop, replicate}
+use Rattle.literals.specs.declared.Lits.{Lits}
+use Rattle.literals.specs.Lits.{noLits}
+use Rattle.rules.specs.Desk.{inUse, standing, conceded, rowPlace, entryPlace, rowOn}
+use Rattle.rules.specs.Rewrite.{stored, empties}
+use Rattle.step_laws.specs.StepTable.{FitsALine}
+use Rattle.promises.specs.Orders.{Said, refused}
+
+-- "14: a named row spent or satisfied, or the remnants don't fit", in the words of the step table: where no earlier number of the order is given
+abbrev pub FourteenWhen : List ℕ → ℕ → List ℕ → Said → Type 0
+FourteenWhen d kind named said =
+    (said ≡ refused 10 0 → ⊥) → (said ≡ refused 11 0 → ⊥) → (said ≡ refused 13 0 → ⊥)
+    → (said ≡ refused 14 0) ↔ ((gives : List Lits) → FitsALine d kind named gives → ⊥)
+
+-- The words that a rewriting may change: rows in use, steps standing and conceded; the named rows; the new rows behind those in use; its entry.
+pub data Changes (d named : List ℕ) (added p : ℕ) : Type 0 where
+  rowsInUse : p ≡ 1 → Changes d named added p
+  stepsStanding : p ≡ 3 → Changes d named added p
+  concededSum : p ≡ 4 → Changes d named added p
+  namedRow : (i : ℕ) → i < length named → rowPlace (getD named i 0) ≤ p → p < rowPlace (suc (getD named i 0)) → Changes d named added p
+  newRow : rowPlace (inUse d) ≤ p → p < rowPlace (inUse d + added) → Changes d named added p
+  itsEntry : entryPlace d (standing d) ≤ p → p < entryPlace d (standing d) + 16 → Changes d named added p
+
+-- "A rewriting does just what its published rule says."
+pub record Rewritten (d : List ℕ) (kind : ℕ) (named after : List ℕ) : Type 0 where
+  -- "w is the smallest weight among the named rows"
+  pub w : ℕ
+  pub isSmallest : (i : ℕ) → i < length named → w ≤ rowOn d (getD named i 0) .weight
+  pub isOfOne : (i : ℕ) × (i < length named) × (w ≡ rowOn d (getD named i 0) .weight)
+  -- "rows named, in this order, as remnants", and "gives, in this order": a line of the table, and no other
+  pub gives : List Lits
+  pub fits : FitsALine d kind named gives
+  pub fitsOnly : (other : List Lits) → FitsALine d kind named other → other ≡ gives
+  -- "Each named row loses w"
+  pub loses : (i : ℕ) → i < length named
+      → rowOn after (getD named i 0) ≡ record { lits = rowOn d (getD named i 0) .lits; weight = rowOn d (getD named i 0) .weight - w }
+  -- "new rows have weight w and hold only the literals shown", "New rows take the next row numbers"
+  pub news : (j : ℕ) → j < length (stored gives) → rowOn after (inUse d + j) ≡ record { lits = getD (stored gives) j noLits; weight = w }
+  pub inUseAfter : inUse after ≡ inUse d + length (stored gives)
+  -- "an empty one is not stored, but adds w to conceded"
+  pub concededAfter : conceded after ≡ conceded d + w * empties gives
+  -- the step stands, and its entry is: "kind, weight w, count of rows named, up to 12 row numbers, 0 in those not needed, and last the first new row
+  -- (the rows in use before the step)"
+  pub standingAfter : standing after ≡ standing d + 1
+  pub entry : take 16 (drop (entryPlace d (standing d)) after) ≡ kind ∷ w ∷ length named ∷ (named ++ (replicate (12 - length named) 0 ++ (inUse d ∷ [])))
+  -- every other word is as found, past the desk too, and there are no more and no fewer
+  pub rest : (p : ℕ) → (Changes d named (length (stored gives)) p → ⊥) → getD after p 0 ≡ getD d p 0
+  pub long : length after ≡ length d

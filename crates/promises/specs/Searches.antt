@@ -1,0 +1,76 @@
+-- Demand 2 of a search: what a finished answer owes, what a stopped one owes, and when it is the one or the other.
+use Prim.Native.Nat.{ℕ, suc, _^_, _≤_, _<_}
+use mathlib.Core.Path.{_≡_}
+use mathlib.Core.List.{List, [], _∷_, _++_, List·Memᴰ}
+use mathlib.Core.Bool.{true, false}
+use mathlib.Core.Logic.{_⊎_, _↔_}
+use lib.ListN.{length, take}
+use Rattle.masks.specs.Masks.{has}
+use Rattle.rules.specs.declared.Part.{Part}
+use Rattle.rules.specs.declared.Status.{Status}
+use Rattle.rules.specs.declared.Best.{Best}
+use Rattle.rules.specs.declared.Found.{Found}
+use Rattle.rules.specs.declared.Searched.{Searched}
+use Rattle.rules.specs.Desk.{variables, decided, decisions, deskWeighs, keeps}
+use Rattle.rules.specs.Walk.{undecided, atStart, priceOf, triedFirst, searched}
+use Rattle.walk_laws.specs.Scan.{leaves, met}
+use Rattle.walk_laws.specs.Order.{Earlier}
+
+-- "the first, true before false": at the lowest variable where two readings differ, the one before has it true
+pub record TrueFirst (one other : ℕ) : Type 0 where
+  pub place : ℕ
+  pub agree : (v : ℕ) → v < place → has one v ≡ has other v
+  pub isTrue : has one place ≡ true
+  pub isFalse : has other place ≡ false
+
+-- "the smallest weight of unsatisfied clauses on the desk, conceded sum included, over all readings that keep the standing decisions, and of those the first"
+pub record Finished (d : List ℕ) (f : Found) : Type 0 where
+  pub weight : ℕ
+  pub reading : ℕ
+  pub answers : f .best ≡ Best.Reading weight reading
+  pub kept : keeps d reading ≡ true
+  pub weighed : deskWeighs d reading ≡ weight
+  pub least : (other : ℕ) → keeps d other ≡ true → weight ≤ deskWeighs d other
+  pub first : (other : ℕ) → keeps d other ≡ true → deskWeighs d other ≡ weight → (other ≡ reading) ⊎ TrueFirst reading other
+
+-- the full readings that the walk met by a count of nodes, visited and not cut, in its order
+abbrev pub metBy : List ℕ → ℕ → List Part
+metBy d budget = met (priceOf d) triedFirst budget (undecided (variables d) (decided d)) (decisions d) (atStart d)
+
+-- the full readings at the leaves of the walk, in its order, whether the walk comes to them or cuts them
+abbrev pub readingsOf : List ℕ → List Part
+readingsOf d = leaves triedFirst (undecided (variables d) (decided d)) (decisions d)
+
+-- they are all the readings that keep the standing decisions, in order, true before false, and so each once
+pub record InOrder (d : List ℕ) : Type 0 where
+  pub kept : (q : Part) → List·Memᴰ q (readingsOf d) → keeps d (q .truths) ≡ true
+  pub all : (full : ℕ) → keeps d full ≡ true → (q : Part) × List·Memᴰ q (readingsOf d) × (q .truths ≡ full)
+  pub order : (q r : Part) → Earlier (readingsOf d) q r → TrueFirst (q .truths) (r .truths)
+
+-- the best of some readings: none where there are none, else one that weighs less than each before it and no more than each behind it
+pub data BestOf (d : List ℕ) (readings : List Part) : Best → Type 0 where
+  nothing : readings ≡ [] → BestOf d readings Best.Nothing
+  one : (front : List Part) (best : Part) (rest : List Part) → readings ≡ front ++ (best ∷ rest) → keeps d (best .truths) ≡ true
+      → ((q : Part) → List·Memᴰ q front → deskWeighs d (best .truths) < deskWeighs d (q .truths))
+      → ((q : Part) → List·Memᴰ q rest → deskWeighs d (best .truths) ≤ deskWeighs d (q .truths))
+      → BestOf d readings (Best.Reading (deskWeighs d (best .truths)) (best .truths))
+
+-- "the best reading that document 01's walk met by that count", or none if it met none; and the best of all the first n readings in the walk's order, those
+-- in front of the node that was due, whether the walk met them or cut them unseen. Some are left.
+pub record Stopped (d : List ℕ) (budget : ℕ) (f : Found) : Type 0 where
+  pub count : f .nodes ≡ budget
+  pub ofThoseMet : BestOf d (metBy d budget) (f .best)
+  pub n : ℕ
+  pub someLeft : n < length (readingsOf d)
+  pub best : BestOf d (take n (readingsOf d)) (f .best)
+
+-- "A node is entered only while the count is below the budget; if one was due and couldn't be, the search is stopped, else done."
+-- That a node was due is seen by searching the same desk with a larger budget, g: it is entered then.
+pub record StopRule (d : List ℕ) (budget : ℕ) (f : Found) : Type 0 where
+  pub within : f .nodes ≤ budget
+  pub stoppedWhen : (more : ℕ) (g : Found) → budget < more → searched d more ≡ Searched.Found g → (f .status ≡ Status.Stopped) ↔ (budget < g .nodes)
+  pub doneWhen : (more : ℕ) (g : Found) → budget < more → searched d more ≡ Searched.Found g → (f .status ≡ Status.Done) ↔ (g .nodes ≤ budget)
+  -- a search that is done is the same with any larger budget
+  pub same : (more : ℕ) (g : Found) → budget ≤ more → searched d more ≡ Searched.Found g → f .status ≡ Status.Done → g ≡ f
+  -- with u variables undecided there are fewer than 2 ^ (u + 1) nodes, so that with such a budget it is done
+  pub few : f .nodes < 2 ^ suc (length (undecided (variables d) (decided d)))

@@ -1,0 +1,46 @@
+-- `read` meets its contract: refused by the head, or what is behind it.
+use borrow.Author.Needs.{needs}
+use Rattle.text_laws.proofs.Matched.{matched}
+use Rattle.text_laws.proofs.Reading.{read-broken}
+use Rattle.reader.proofs.Rest.{behind-read}
+use Rattle.reader.proofs.read.Statement.{statement}
+use Rattle.reader.proofs.read.Tie as tie
+
+head-at-requires : tie.Need-head-at-requires
+head-at-requires c κs = search needs
+
+enum-known-line : tie.Need-enum-known-line
+enum-known-line c = search needs
+
+enum-known-variables : tie.Need-enum-known-variables
+enum-known-variables c = search needs
+
+read-rest-requires : tie.Need-read-rest-requires
+read-rest-requires c κs = search needs
+
+returns : tie.Need-returns
+returns c =
+    let a = c .before .before .before .before .before .before .args in
+    read-broken (a .s .now) (a .table .now) _ (matched (c .before .before .before .head-at .ensures) (c .before .line .given .1))
+
+same-length : tie.Need-same-length
+same-length c = search needs
+
+returns-2 : tie.Need-returns-2
+returns-2 c =
+    let head = c .before .before .before .before .before in
+    let a = head .before .before .before .before .before .args in
+    behind-read (a .s .now) (a .table .now) _ _ _ _ _ _ _ (head .before .before .head-at .ensures) (head .variables .given .1)
+    (c .before .before .read-rest .ensures)
+
+pub read-spec : {M : Type 1} → statement M
+read-spec =
+    tie.close
+    (tie.spec
+    head-at-requires
+    enum-known-line
+    enum-known-variables
+    read-rest-requires
+    returns
+    same-length
+    returns-2)

@@ -1,0 +1,4 @@
+pub mod Bad
+pub mod Lasts
+pub mod Regained
+pub mod Undo

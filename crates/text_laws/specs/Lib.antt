@@ -1,0 +1,4 @@
+pub mod Keys
+pub mod Pieces
+pub mod Lengths
+pub mod Ends

@@ -1,0 +1,54 @@
+-- `set_row_in` meets its contract: the stores come one behind the other.
+use native.Mathlib.Omega.{arith}
+use native.Mathlib.Numerals.{add-one, add-two}
+use lib.ListN.{length-set}
+use Rattle.rules.specs.Table.{rowWordsOf}
+use borrow.Author.Needs.{needs}
+use Rattle.words.proofs.inner.set_row_in.Statement.{statement}
+use Rattle.words.proofs.inner.set_row_in.Tie as tie
+
+mul-words : tie.Need-mul-words
+mul-words c = search needs
+
+slice-write-words : tie.Need-slice-write-words
+slice-write-words c = search needs
+
+add-words : tie.Need-add-words
+add-words c = search needs
+
+mul-words-2 : tie.Need-mul-words-2
+mul-words-2 c = search needs
+
+slice-write-words-2 : tie.Need-slice-write-words-2
+slice-write-words-2 c = simp length-set (omega arith)
+
+add-words-2 : tie.Need-add-words-2
+add-words-2 c = search needs
+
+mul-words-3 : tie.Need-mul-words-3
+mul-words-3 c = search needs
+
+slice-write-words-3 : tie.Need-slice-write-words-3
+slice-write-words-3 c = simp length-set (omega arith)
+
+same-length : tie.Need-same-length
+same-length c = search needs
+
+returns : tie.Need-returns
+unfolding rowWordsOf
+returns c = simp (add-one, add-two)
+
+pub set-row-in-spec : {M : Type 1} → statement M
+set-row-in-spec =
+    tie.close
+    (tie.spec
+    mul-words
+    slice-write-words
+    add-words
+    mul-words-2
+    slice-write-words-2
+    add-words-2
+    mul-words-3
+    slice-write-words-3
+    same-length
+    returns)

@@ -1,0 +1,2 @@
+// Rows and entries in lent words: the one room that knows how either lies.
+pub mod inner;
