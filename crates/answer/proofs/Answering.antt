@@ -1,58 +1,86 @@
 -- The answer by case: too long, not read, not loaded, searched.
-use Prim.Native.Nat.{ℕ, zero, suc, _+_, _*_, _<_, _≤_}
-use mathlib.Core.Path.{_≡_, refl, ap, _∙_}
+use Prim.Native.Nat.{ℕ, _+_, _*_, _<_, _≤_}
+use mathlib.Core.Path.{_≡_, ap, _∙_}
 use mathlib.Core.Bool.{true}
-use mathlib.Core.List.{List, _∷_}
+use mathlib.Core.List.{List, [], _++_, append-nil}
 use native.Mathlib.Nat.{zero-add}
 use native.Mathlib.Omega.{arith}
 use borrow.Author.Tests.{lt-ltb, le-ltb}
-use lib.ListN.{length, take, replicate}
-use lib.Seq.{sets, sets-eq}
+use lib.ListN.{length, take, drop, replicate}
+use lib.Seq.{sets, sets-eq, take-append-add, length-take-le}
 use Rattle.rules.specs.declared.Refusal.{Refusal}
 use Rattle.rules.specs.declared.Refusal.the-variants.{NoRoom, InputTooLong}
+use Rattle.rules.specs.declared.Judged.{Judged}
 use Rattle.rules.specs.declared.Judged.the-variants.{Fine, Refused}
 use Rattle.rules.specs.declared.TextRead.{TextRead}
+use Rattle.rules.specs.declared.Found.{Found}
 use Rattle.rules.specs.declared.Searched.{Searched}
 use Rattle.rules.specs.declared.Written.{Written}
 use Rattle.rules.specs.Table.{rowWords, mostRows}
-use Rattle.rules.specs.Desk.{deskWords, wellFormed, loadWhy, loadStep, loadDesk}
-use Rattle.rules.specs.Bound.{deskWhy}
-use Rattle.rules.specs.Walk.{walkIn, foundBy, searched}
+use Rattle.rules.specs.Desk.{headWords, inUse, rowPlace, deskWords, wellFormed, loadStep}
+use Rattle.rules.specs.Walk.{walkIn, foundBy}
 use Rattle.rules.specs.Reader.{readWords, textRead}
 use Rattle.rules.specs.Program.{mostInput, refusalText, programDesk, readAnswer, answer, answerWhy, answerStep, answered, answerOut}
 use Rattle.rules.proofs.Judging.{words-fine}
+use Rattle.desk_laws.proofs.Formed.{formed}
+use Rattle.desk_laws.proofs.Alike.{front-alike}
 use Rattle.step_laws.proofs.Steps.{load-formed}
+use Rattle.text_laws.proofs.Matched.{matched}
+use Rattle.walk_laws.proofs.Alike.{walk-alike}
+use Rattle.desk.specs.Front.{frontWhy, frontStep, frontDesk}
+use Rattle.desk.proofs.Fronts.{front-count}
+use Rattle.bound.specs.Units.{Readable}
+use Rattle.bound.proofs.Fits.{readable, readable-front}
 use Rattle.answer_lines.specs.Lines.{searchedText}
 
--- a row's words of zeros are zeros
-pub take-zeros : (n m : ℕ) → n ≤ m → take n (replicate {A = ℕ} m 0) ≡ replicate n 0
-take-zeros zero m h = refl
-take-zeros (suc n) zero h = absurd (omega arith)
-take-zeros (suc n) (suc m) h = ap (λ (l : List ℕ). 0 ∷ l) (take-zeros n m (omega arith))
+-- ---- load and search, of a desk's head and rows
 
--- ---- load and search
+module _ (n b m : ℕ) (words : List ℕ) (long : length words ≡ headWords + rowWords * m) where
+  pub not-loaded : (j : Judged) (r : Refusal) → j ≡ frontWhy n m words → j ≡ Refused r
+      → refusalText r ≡ readAnswer (drop headWords words) (TextRead.Table n b m)
+  unfolding frontWhy
+  not-loaded j r why e = let f : frontWhy n m words ≡ Refused r = matched why e in rw f
 
-module _ (n b m : ℕ) (table desk : List ℕ) (zeros : desk ≡ replicate (deskWords m) 0) where
-  pub not-loaded : (r : Refusal) → loadWhy n table m desk ≡ Refused r → refusalText r ≡ readAnswer table (TextRead.Table n b m)
-  not-loaded r e =
-      let f : loadWhy n table m (replicate (deskWords m) 0) ≡ Refused r = rw zeros at e in
-      rw f
+  module _ (j : Judged) (after : List ℕ) (why : j ≡ frontWhy n m words) (fine : j ≡ Fine) (made : after ≡ frontDesk n m words) where
+    -- where the rows of the program's desk end
+    ends : rowPlace (inUse (programDesk n m (drop headWords words))) ≤ rowPlace m
+    unfolding programDesk loadStep rowPlace
+    ends = omega (arith, front-count n m words long)
 
-  found-on : (d : List ℕ) → wellFormed d ≡ true → searched d b ≡ Searched.Found (foundBy (walkIn d b))
-  unfolding searched deskWhy
-  found-on d e = rw e
+    formed-whole : wellFormed (programDesk n m (drop headWords words)) ≡ true
+    unfolding programDesk frontWhy
+    formed-whole = load-formed n (drop headWords words) m (replicate (deskWords m) 0) (matched why fine)
 
-  pub loaded : (after : List ℕ) (s : Searched) → loadWhy n table m desk ≡ Fine → after ≡ loadDesk n table m desk → s ≡ searched after b
-      → searchedText n s ≡ readAnswer table (TextRead.Table n b m)
-  unfolding programDesk loadDesk
-  loaded after s fine e q =
-      let none : List ℕ = replicate (deskWords m) 0 in
-      let step : List ℕ = loadStep n table m none in
-      let f : loadWhy n table m none ≡ Fine = rw zeros at fine in
-      let laid : after ≡ step = (e ∙ words-fine (loadWhy n table m desk) (loadStep n table m desk) desk fine) ∙ ap (loadStep n table m) zeros in
-      let found : s ≡ Searched.Found (foundBy (walkIn step b)) =
-      q ∙ ap (λ (d : List ℕ). searched d b) laid ∙ found-on step (load-formed n table m none f) in
-      rw (found, f)
+    front : after ≡ take (rowPlace m) (programDesk n m (drop headWords words))
+    unfolding programDesk frontDesk frontStep
+    front = made ∙ words-fine (frontWhy n m words) (frontStep n m words) words (matched why fine)
+
+    within : rowPlace m ≤ length (programDesk n m (drop headWords words))
+    unfolding programDesk loadStep deskWords
+    within = omega (arith, formed _ formed-whole .reaching)
+
+    pub front-readable : Readable after
+    front-readable = rw front (readable-front (readable _ formed-whole) (rowPlace m) ends within)
+
+    pub loaded : (found : Found) → found ≡ foundBy (walkIn after b)
+        → searchedText n (Searched.Found found) ≡ readAnswer (drop headWords words) (TextRead.Table n b m)
+    unfolding frontWhy
+    loaded found e =
+        let d = programDesk n m (drop headWords words) in
+        let f : frontWhy n m words ≡ Fine = matched why fine in
+        let same : found ≡ foundBy (walkIn d b) =
+        e ∙ ap (λ (x : List ℕ). foundBy (walkIn x b)) front ∙ ap foundBy (walk-alike (front-alike d (rowPlace m) ends) b) in
+        rw (same, f)
+
+-- ---- rows behind the words for a head
+
+pub behind-head : (k : ℕ) (words : List ℕ) → drop headWords (take (headWords + k) (replicate {A = ℕ} headWords 0 ++ (words ++ []))) ≡ take k words
+behind-head k words =
+    ap (drop headWords) (take-append-add (replicate {A = ℕ} headWords 0) (words ++ []) k) ∙ ap (take k) (append-nil words)
+
+pub length-behind : (k : ℕ) (words : List ℕ) → k ≤ length words
+    → length (take (headWords + k) (replicate {A = ℕ} headWords 0 ++ (words ++ []))) ≡ headWords + k
+length-behind k words few = length-take-le (headWords + k) (replicate {A = ℕ} headWords 0 ++ (words ++ [])) (simp append-nil (omega arith))
 
 -- ---- the answer
 

@@ -14,9 +14,6 @@ stoppedLine = 115 ∷ 116 ∷ 97 ∷ 116 ∷ 117 ∷ 115 ∷ 61 ∷ 115 ∷ 116 
 abbrev pub noWeightLine : List ℕ
 noWeightLine = 119 ∷ 101 ∷ 105 ∷ 103 ∷ 104 ∷ 116 ∷ 61 ∷ 110 ∷ 111 ∷ 110 ∷ 101 ∷ 10 ∷ []
 
-abbrev pub noReadingLine : List ℕ
-noReadingLine = 114 ∷ 101 ∷ 97 ∷ 100 ∷ 105 ∷ 110 ∷ 103 ∷ 61 ∷ 110 ∷ 111 ∷ 110 ∷ 101 ∷ 10 ∷ []
-
 abbrev pub numberKey : List ℕ
 numberKey = 110 ∷ 117 ∷ 109 ∷ 98 ∷ 101 ∷ 114 ∷ 61 ∷ []
 
@@ -25,6 +22,3 @@ placeKey = 112 ∷ 108 ∷ 97 ∷ 99 ∷ 101 ∷ 61 ∷ []
 
 abbrev pub nodesKey : List ℕ
 nodesKey = 110 ∷ 111 ∷ 100 ∷ 101 ∷ 115 ∷ 61 ∷ []
-
-abbrev pub readingKey : List ℕ
-readingKey = 114 ∷ 101 ∷ 97 ∷ 100 ∷ 105 ∷ 110 ∷ 103 ∷ 61 ∷ []

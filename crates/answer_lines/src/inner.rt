@@ -1,5 +1,4 @@
 // Each line where the one before it ends. A variable that is counted has a bit in a reading.
-ghost use mathlib.Core.Path.{_≡_};
 ghost use Prim.Native.Nat.{_+_, _≤_, _^_};
 ghost use Rattle.literals.specs.Literal.{mostVariables};
 ghost use Rattle.rules.specs.Text.{line};
@@ -7,22 +6,22 @@ ghost use Rattle.rules.specs.Program.{refusalText, statusText, weightText, foun
 ghost use Rattle.pieces_written.specs.Stored.{Stored};
 ghost use Rattle.answer_lines.specs.Lines.{searchedText};
 ghost use Rattle.answer_lines.specs.Lengths.{mostWeightLine};
-use crate::readings;
 use pieces_written::inner;
+use readings::inner::put_reading;
 use rules::Best;
 use rules::Found;
 use rules::Refusal;
 use rules::Searched;
 use rules::Status;
+use values::numbered;
 
 fn put_refusal(out: &mut [u8], why: Refusal) -> usize
     ensures { λ r. ⌜ Stored (now (out .entry)) 0 (refusalText why) r (now (out .exit)) ⌝ }
 {
-    let number = why.number();
-    let place = why.place();
+    let told = numbered(why);
     let second = inner::put_key(out, 0, b"status=refused\n");
-    let third = inner::put_number_line(out, second, b"number=", number);
-    inner::put_number_line(out, third, b"place=", place)
+    let third = inner::put_number_line(out, second, b"number=", told.0);
+    inner::put_number_line(out, third, b"place=", told.1)
 }
 
 fn put_status(out: &mut [u8], status: Status) -> usize
@@ -54,7 +53,7 @@ fn put_found(out: &mut [u8], variables: u64, found: Found) -> usize
     let second = put_status(out, status);
     let third = put_weight(out, second, best);
     let fourth = inner::put_number_line(out, third, b"nodes=", nodes);
-    readings::put_reading(out, fourth, variables, best)
+    put_reading(out, fourth, variables, best)
 }
 
 // What a search of so many variables came to.

@@ -1,3 +1,2 @@
 // The lines of an answer, written of the text's own pieces: a refusal's three, or a search's four.
 pub mod inner;
-mod readings;

@@ -6,6 +6,8 @@ use mathlib.Core.Path.{_≡_}
 use mathlib.Core.Bool.{Bool, true, cond, not, _&&_}
 use native.Mathlib.Nat.{min-le-left}
 use native.Mathlib.Omega.{arith}
+use lib.ListN.{length, take}
+use lib.Seq.{length-take-le}
 use Rattle.masks.specs.Masks.{has}
 use Rattle.masks.specs.Sums.{sum}
 use Rattle.masks.proofs.Choice.{cond-elim}
@@ -18,6 +20,7 @@ use Rattle.rules.specs.Table.{mostWeight}
 use Rattle.rules.specs.Desk.{variables, inUse, conceded, rowOn, rowPlace, deskWords, wellFormed, weightOn, satisfied, remnant}
 use Rattle.rules.specs.Bound.{weightWhere, lostBeyond, unitWeight, foreseenAt, foreseen}
 use Rattle.desk_laws.proofs.Formed.{formed}
+use Rattle.desk_laws.proofs.Alike.{front-alike, weight-alike}
 use Rattle.bound.specs.Units.{Readable, positiveUnit, negativeUnit}
 
 pub where-le : (test : Lits → Bool) (p : Part) (row : Row) → weightWhere test p row ≤ row .weight
@@ -85,3 +88,15 @@ unfolding deskWords rowPlace
 readable d h =
     let f = formed d h in
     record { rows = omega (arith, f .reaching, f .fitting); weights = f .light; bits = f .named }
+
+-- and so can its front that ends behind its rows in use
+pub readable-front : {d : List ℕ} → Readable d → (n : ℕ) → rowPlace (inUse d) ≤ n → n ≤ length d → Readable (take n d)
+unfolding rowPlace
+readable-front {d} r n behind within =
+    let alike = front-alike d n behind in
+    let used = alike .heads 1 (omega arith) in
+    record {
+      rows = omega (arith, length-take-le n d within);
+      weights = rw (weight-alike alike) (r .weights);
+      bits = rw (alike .heads 0 (omega arith)) (r .bits);
+    }

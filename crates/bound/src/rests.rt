@@ -10,6 +10,8 @@ ghost use Rattle.bound.specs.Units.{unitsIn, unitsBy};
 use crate::Units;
 use rules::Part;
 use rules::Row;
+use values::remnant;
+use values::satisfied;
 
 // How many literals are left, of these two masks.
 fn ones(positive: u64, negative: u64) -> u64
@@ -67,10 +69,10 @@ pub fn lost_by(p: Part, row: Row) -> u64
     ensures { λ r. ⌜ r ≡ weightWhere isEmpty p row ⌝ }
 {
     let l = row.lits;
-    if p.satisfied(l) {
+    if satisfied(p, l) {
         return 0;
     }
-    let rest = p.remnant(l);
+    let rest = remnant(p, l);
     lost_in(rest.positive, rest.negative, row.weight)
 }
 
@@ -86,12 +88,12 @@ pub fn units_by(p: Part, row: Row, v: u64) -> Units
             negative: 0,
         };
     }
-    if p.satisfied(l) {
+    if satisfied(p, l) {
         return Units {
             positive: 0,
             negative: 0,
         };
     }
-    let rest = p.remnant(l);
+    let rest = remnant(p, l);
     units_in(rest.positive, rest.negative, v, row.weight)
 }

@@ -1,9 +1,13 @@
 // Deciding a literal: judged whole, then written.
 ghost use mathlib.Core.Path.{_≡_};
-ghost use Rattle.rules.specs.Decide.{badLiteral, decideWhy, decideDesk};
+ghost use mathlib.Core.Bool.{true};
+ghost use Rattle.literals.specs.Literal.{isLiteral};
+ghost use Rattle.rules.specs.Decide.{decideWhy, decideDesk};
+ghost use Rattle.deciding.specs.Order.{stepWhy, outOfReach};
 use desk::well_formed;
 use inner::decide_step;
 use literals::Literal;
+use literals::Offered;
 use rules::Desk;
 use rules::Judged;
 use rules::Refusal;
@@ -16,17 +20,23 @@ pub fn decide(desk: &mut [u64], literal: i64) -> Judged
     ensures { λ r. ⌜ r ≡ decideWhy (now (desk .entry)) literal ⌝ }
     ensures { λ _. ⌜ now (desk .exit) ≡ decideDesk (now (desk .entry)) literal ⌝ }
 {
-    let l = Literal { value: literal };
-    let why = decide_why(desk, l);
+    let why = step_why(desk);
     let Judged::Fine = why else {
         return why;
     };
+    let Offered::Fine(l) = Literal::new(literal) else {
+        return Judged::Refused(Refusal::BadLiteral);
+    };
+    if out_of_reach(desk, l) {
+        return Judged::Refused(Refusal::BadLiteral);
+    }
     decide_step(desk, l);
     Judged::Fine
 }
 
-fn decide_why(desk: &[u64], l: Literal) -> Judged
-    ensures { λ r. ⌜ r ≡ decideWhy (now (desk .entry)) (l .value) ⌝ }
+// 10 and 11.
+fn step_why(desk: &[u64]) -> Judged
+    ensures { λ r. ⌜ r ≡ stepWhy (now (desk .entry)) ⌝ }
 {
     if !well_formed(desk) {
         return Judged::Refused(Refusal::BadDesk);
@@ -34,19 +44,14 @@ fn decide_why(desk: &[u64], l: Literal) -> Judged
     if Desk::MOST_STEPS <= word(desk, Desk::STANDING) {
         return Judged::Refused(Refusal::TooManySteps);
     }
-    if bad_literal(desk, l) {
-        return Judged::Refused(Refusal::BadLiteral);
-    }
     Judged::Fine
 }
 
-// Variable 0, above the count or already decided, or no literal at all.
-fn bad_literal(desk: &[u64], l: Literal) -> bool
-    ensures { λ r. ⌜ r ≡ badLiteral (now (desk .entry)) (l .value) ⌝ }
+// Above the count, or already decided.
+fn out_of_reach(desk: &[u64], l: Literal) -> bool
+    requires { ⌜ isLiteral (l .value) ≡ true ⌝ }
+    ensures { λ r. ⌜ r ≡ outOfReach (now (desk .entry)) (l .value) ⌝ }
 {
-    if !l.is_literal() {
-        return true;
-    }
     let v = l.size();
     (v > word(desk, Desk::VARIABLES)) | masks::has(word(desk, Desk::DECIDED), v - 1)
 }

@@ -1,3 +1,4 @@
 pub mod Branches
+pub mod Fronts
 pub mod Laid
 pub mod Loading

@@ -1,28 +1,21 @@
 -- What a load that is not refused has shown: the table lies within the desk's rows, and the desk within the lent words.
-use Prim.Native.Nat.{ℕ, _*_, _%_, _≤_}
-use mathlib.Core.Path.{_≡_, sym, ap, _∙_}
+use Prim.Native.Nat.{ℕ, _*_, _≤_}
+use mathlib.Core.Path.{_≡_}
 use mathlib.Core.List.{List}
-use mathlib.Core.Bool.{Bool, true, false, not, _||_}
+use mathlib.Core.Bool.{_||_}
 use native.Mathlib.Omega.{arith}
 use lib.ListN.{length}
-use lib.Dec.{eqb, ltb}
-use borrow.Author.Tests.{ltb-false, eqb-true, not-false}
+use lib.Dec.{ltb}
+use borrow.Author.Tests.{ltb-false}
 use Rattle.masks.proofs.Choice.{or-left, or-right}
 use Rattle.literals.specs.Literal.{mostVariables}
 use Rattle.rules.specs.declared.Refusal.the-variants.{TooManyVariables, BadTable, BadCapacity, NoRoom, SumTooLarge}
-use Rattle.rules.specs.declared.Judged.{Judged}
 use Rattle.rules.specs.declared.Judged.the-variants.{Fine}
 use Rattle.rules.specs.Refusals.{refuse, inOrder}
-use Rattle.rules.specs.Table.{rowWords, mostRows, rowCount, badTable, rowsWhy, sumTooLarge}
+use Rattle.rules.specs.Table.{rowWords, rowCount, badTable, rowsWhy, sumTooLarge}
 use Rattle.rules.specs.Desk.{mostCapacity, deskWords, loadWhy}
 use Rattle.rules.proofs.Judging.{refuse-fine}
-
--- whole rows, and not too many
-pub whole-rows : (t : List ℕ) → badTable t ≡ false → length t ≡ rowWords * rowCount t
-unfolding badTable rowCount
-whole-rows t e =
-    let whole = eqb-true (length t % rowWords) 0 (not-false _ (or-left (not (eqb (length t % rowWords) 0)) (ltb mostRows (rowCount t)) e)) in
-    omega arith
+use Rattle.rules.proofs.Admissible.{whole-rows}
 
 pub load-room : (n : ℕ) (t : List ℕ) (c : ℕ) (d : List ℕ) → loadWhy n t c d ≡ Fine
     → (c ≤ mostCapacity) × (length t ≤ rowWords * c) × (deskWords c ≤ length d)
@@ -36,7 +29,7 @@ load-room n t c d e =
     let e3 = refuse-fine badC BadCapacity room (e2 .1) in
     let e4 = refuse-fine (ltb (length d) (deskWords c)) NoRoom last (e3 .1) in
     let few = ltb-false c (rowCount t) (or-left (ltb c (rowCount t)) (ltb mostCapacity c) (e3 .0)) in
-    let whole = whole-rows t (e2 .0) in (
+    let whole = whole-rows t (e2 .0) .0 in (
       ltb-false mostCapacity c (or-right (ltb c (rowCount t)) (ltb mostCapacity c) (e3 .0)),
       omega arith,
       ltb-false (length d) (deskWords c) (e4 .0),

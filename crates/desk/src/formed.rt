@@ -10,9 +10,9 @@ use literals::Literal;
 use rules::Desk;
 use rules::Entry;
 use rules::Row;
-use rules::bad_lits;
 use rules::word;
 use tables::inner::over;
+use values::bad_lits;
 use words::inner::row_on;
 
 // Whether a desk in these words is well formed.

@@ -70,7 +70,7 @@ fn lay(variables: u64, table: &[u64], capacity: u64, desk: &mut [u64])
     zero(desk, used, end - used);
 }
 
-fn lay_head(variables: u64, rows: u64, capacity: u64, desk: &mut [u64])
+pub fn lay_head(variables: u64, rows: u64, capacity: u64, desk: &mut [u64])
     requires { ⌜ headWords ≤ length (now desk) ⌝ }
     ensures { λ _. ⌜ now (desk .exit) ≡ sets (now (desk .entry)) 0 (headFor variables rows capacity) ⌝ }
 {

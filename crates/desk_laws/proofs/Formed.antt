@@ -4,14 +4,14 @@
 use Prim.Native.Nat.{ℕ, suc, _+_, _≤_, _<_, _^_}
 use mathlib.Core.Path.{_≡_}
 use mathlib.Core.List.{List}
-use mathlib.Core.Bool.{Bool, true, false, not, _&&_, _||_, and-eq-true-iff}
+use mathlib.Core.Bool.{Bool, true, false, not, _&&_, and-eq-true-iff}
 use native.Mathlib.Omega.{arith}
 use borrow.Author.Tests.{leb-true, le-leb, not-true, not-false}
 use lib.ListN.{length}
 use lib.Bits.{bitAnd}
 use lib.Dec.{leb}
 use Rattle.masks.specs.Masks.{none, without, below}
-use Rattle.masks.proofs.Choice.{or-left, or-right, and-left, and-right, both, or-none}
+use Rattle.masks.proofs.Choice.{and-left, and-right, both, or-none}
 use Rattle.masks.proofs.Bits.{below-lt, lt-below}
 use Rattle.masks.proofs.Sets.{none-zero, zero-none}
 use Rattle.masks.proofs.Sums.{every-at, every-true}

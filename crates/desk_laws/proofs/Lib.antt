@@ -4,3 +4,4 @@ pub mod Stores
 pub mod Weights
 pub mod Readings
 pub mod Verdicts
+pub mod Alike

@@ -1,7 +1,7 @@
 -- A row is its words: it depends on them alone, a row stored is the row read, and the words of the row read are those that stand there.
 -- What else is said of rows in words goes through these laws, so that a row of other words moves `rowIn`, `rowWordsOf` and this file.
-use Prim.Native.Nat.{ℕ, zero, suc, _+_, _*_, _≤_, _<_}
-use mathlib.Core.Path.{_≡_, refl, sym, ap, _∙_}
+use Prim.Native.Nat.{ℕ, zero, suc, _+_, _≤_, _<_}
+use mathlib.Core.Path.{_≡_, refl}
 use mathlib.Core.List.{List}
 use native.Mathlib.Nat.{add-zero}
 use native.Mathlib.Omega.{arith}

@@ -17,7 +17,8 @@ use Rattle.literals.specs.Lits.{noLits}
 use Rattle.rules.specs.declared.Row.{Row}
 use Rattle.rules.specs.Table.{rowWords, rowWordsOf, newRow, withWeight}
 use Rattle.rules.specs.Desk.{headWords, rowPlace, rowOn, setRow, setWeight}
-use Rattle.rules.specs.Rewrite.{reweighed, laid}
+use Rattle.rules.specs.Rewrite.{laid}
+use Rattle.rules.specs.Steps.{reweighed}
 use Rattle.desk_laws.proofs.Rows.{length-row, row-of-words, row-stored, words-of-row}
 use Rattle.desk_laws.proofs.Formed.{place-mono, place-next, head-before}
 

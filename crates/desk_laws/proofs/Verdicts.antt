@@ -1,10 +1,9 @@
 -- What an accepted call says: none of its tests held. A call's refusals come in order, so each law takes the first test off.
 -- The facts of an accepted decision and of an accepted rewriting follow, as records of plain facts.
 use Prim.Native.Nat.{ℕ, _+_, _-_, _≤_, _<_}
-use mathlib.Core.Path.{_≡_, refl}
+use mathlib.Core.Path.{_≡_}
 use mathlib.Core.Bool.{Bool, true, false, not, _&&_, _||_}
 use mathlib.Core.List.{List}
-use native.Mathlib.Omega.{arith}
 use borrow.Author.Tests.{ltb-true, ltb-false, leb-true, leb-false, eqb-false, not-true, not-false}
 use lib.Dec.{leb, ltb, eqb}
 use lib.IntN.{ℤ}
@@ -21,8 +20,9 @@ use Rattle.rules.specs.declared.Judged.the-variants.{Fine}
 use Rattle.rules.specs.Refusals.{refuse}
 use Rattle.rules.specs.Desk.{variables, inUse, capacity, standing, decided, mostSteps, wellFormed, decisions, satisfied, rowOn, spent}
 use Rattle.rules.specs.Decide.{badLiteral, decideWhy}
-use Rattle.rules.specs.Rewrite.{countFits, distinct, wellNamed, remnantOf, fits, stored, given, wellFitted, rewriteWhy}
-use Rattle.rules.proofs.Judging.{refuse-fine, order-fine}
+use Rattle.rules.specs.Rewrite.{fits, given, wellFitted, rewriteWhy}
+use Rattle.rules.specs.Steps.{countFits, distinct, wellNamed, remnantOf, stored}
+use Rattle.rules.proofs.Judging.{refuse-fine}
 use Rattle.desk_laws.proofs.Formed.{Formed, formed}
 use Rattle.desk_laws.proofs.Stores.{Distinct}
 

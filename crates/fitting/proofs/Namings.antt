@@ -1,28 +1,29 @@
 -- What well named rows are, in numbers, and how many rows a rewriting that fits adds: the table by kind says it.
-use Prim.Native.Nat.{ℕ, _+_, _-_, _*_, _≤_, _<_}
-use mathlib.Core.Path.{_≡_, refl, sym, ap, _∙_, subst}
-use mathlib.Core.Logic.{_⊎_, ⊎-elim}
+use Prim.Native.Nat.{ℕ, _-_, _≤_, _<_}
+use mathlib.Core.Path.{_≡_, sym, ap, _∙_, subst}
+use mathlib.Core.Logic.{⊎-elim}
 use mathlib.Core.List.{List, [], _∷_}
-use mathlib.Core.Bool.{Bool, true, false, not, cond, _&&_, _||_}
+use mathlib.Core.Bool.{true, cond, _&&_}
 use native.Mathlib.Omega.{arith}
 use lib.ListN.{length, getD}
 use lib.Dec.{eqb, leb, ltb}
-use borrow.Author.Tests.{leb-true, ltb-true, eq-eqb, ne-eqb}
+use borrow.Author.Tests.{leb-true, ltb-true, ne-eqb}
 use Rattle.masks.specs.Sums.{every}
 use Rattle.masks.proofs.Sums.{every-at}
 use Rattle.masks.proofs.Choice.{cases, and-left, and-right, eq-or-ne, cond-elim}
 use Rattle.literals.specs.declared.Lits.{Lits}
 use Rattle.literals.specs.Lits.{isEmpty}
-use Rattle.rules.specs.Table.{rowWords}
-use Rattle.rules.specs.Desk.{headWords, variables, inUse, capacity, mostSteps, entryWords, rowPlace, deskWords, rowOn, decisions, satisfied, spent}
-use Rattle.rules.specs.Rewrite.{fewest, most, fewerAdded, countFits, distinct, wellNamed, remnantOf, clash, apartFrom, fits, gives, stored, given, wellFitted}
+use Rattle.rules.specs.Desk.{variables, inUse, rowPlace, deskWords}
+use Rattle.rules.specs.Rewrite.{clash, apartFrom, fits, gives, given, wellFitted}
+use Rattle.rules.specs.Steps.{fewest, most, fewerAdded, countFits, distinct, wellNamed, remnantOf, stored}
 use Rattle.desk_laws.proofs.Formed.{Sound, Formed}
 use Rattle.desk_laws.proofs.Stores.{Distinct}
 use Rattle.desk_laws.proofs.Verdicts.{distinct-apart}
 use Rattle.step_laws.proofs.Accepted.{remnant-sound}
-use Rattle.step_laws.proofs.ByKind.{Yields, yields}
-use Rattle.fitting.specs.Rows.{OnDesk, WellNamed, addedRows}
-use Rattle.fitting.proofs.Counts.{well-named, fewer-named}
+use Rattle.step_laws.proofs.ByKind.{yields}
+use Rattle.remnants.specs.Rows.{OnDesk, WellNamed, addedRows}
+use Rattle.fitting.specs.Open.{allOpen}
+use Rattle.remnants.proofs.Counts.{well-named}
 
 pub record Names (d : List ℕ) (kind : ℕ) (named : List ℕ) : Type 0 where
   pub count : WellNamed kind (length named)
@@ -102,5 +103,5 @@ pub fitted-fits : (d : List ℕ) (kind : ℕ) (named : List ℕ) → wellFitted 
 unfolding wellFitted
 fitted-fits d kind named e =
     and-right
-    (every (length named) (λ i. not (spent (rowOn d (getD named i 0)) || satisfied (decisions d) (rowOn d (getD named i 0) .lits))))
+    (allOpen d named)
     (fits kind (length named) (remnantOf d named)) e

@@ -1,11 +1,12 @@
 -- The entry of a rewriting, from one that names no row yet: the named rows take the first places, and 0 stays in those not needed.
 use Prim.Native.Nat.{ℕ, zero, suc, _+_, _-_, _≤_}
-use mathlib.Core.Path.{_≡_, refl, sym, ap, _∙_}
-use mathlib.Core.List.{List, [], _∷_, _++_, append-assoc}
+use mathlib.Core.Path.{_≡_, sym, ap, _∙_}
+use mathlib.Core.List.{List, [], _∷_, _++_}
 use native.Mathlib.Omega.{arith}
-use lib.ListN.{length, drop, replicate, length-replicate}
+use lib.ListN.{length, drop, replicate}
 use lib.Seq.{sets, sets-eq, drop-drop, drop-append-le, drop-nil}
-use Rattle.rules.specs.Rewrite.{mostNamed, rewritingEntry}
+use Rattle.rules.specs.Rewrite.{rewritingEntry}
+use Rattle.rules.specs.Steps.{mostNamed}
 
 drop-replicate : (m n : ℕ) → drop n (replicate {A = ℕ} m 0) ≡ replicate (m - n) 0
 drop-replicate zero n =

@@ -1,16 +1,17 @@
 -- What a rewriting that fits lays, kind by kind: the rows that it gives, without the empty ones, and the room that they take.
 use Prim.Native.Nat.{ℕ, _+_, _-_, _*_, _≤_}
 use mathlib.Core.Path.{_≡_, refl, sym, ap, _∙_, subst}
-use mathlib.Core.List.{List, [], _∷_, _++_}
+use mathlib.Core.List.{List}
 use native.Mathlib.Omega.{arith}
-use lib.ListN.{length, getD}
+use lib.ListN.{length}
 use Rattle.literals.specs.declared.Lits.{Lits}
 use Rattle.rules.specs.Table.{rowWords}
 use Rattle.rules.specs.Desk.{headWords}
-use Rattle.rules.specs.Rewrite.{remnantOf, gives, stored, empties, compensating, fewest, most, fewerAdded, concedes}
+use Rattle.rules.specs.Rewrite.{gives, given, laid, compensating}
+use Rattle.rules.specs.Steps.{remnantOf, stored, fewest, fewerAdded, concedes}
 use Rattle.step_laws.proofs.ByKind.{by-kind}
-use Rattle.fitting.specs.Rows.{WellNamed}
-use Rattle.laying.specs.Room.{Fitting, forkEnd, forkRows}
+use Rattle.remnants.specs.Rows.{forkEnd}
+use Rattle.laying.specs.Room.{Fitting, forkRows}
 use Rattle.laying.proofs.Laying.{stored-all, stored-behind}
 
 -- the fourth kind is what is left
@@ -41,15 +42,20 @@ module _ (d : List ℕ) (kind : ℕ) (named : List ℕ) (first : ℕ) (p : Fitti
   unfolding fewerAdded
   room-chain e = at 3 e .room
 
-  pub gives-shift : kind ≡ 2 → gives 2 n f ≡ stored (gives kind n f)
-  unfolding concedes
-  gives-shift e =
-      sym (ap (λ (k : ℕ). stored (gives k n f)) e ∙ stored-all (gives 2 n f) (at 2 e .full (λ q. omega arith)))
+  pub laid-merge : (w : ℕ) (e : List ℕ) → kind ≡ 1 → e ≡ laid d first w (stored (given d 1 named)) → e ≡ laid d first w (stored (given d kind named))
+  laid-merge w e k here = here ∙ ap (λ (j : ℕ). laid d first w (stored (given d j named))) (sym k)
 
-  pub gives-chain : kind ≡ 3 → compensating f (n - 2) ≡ stored (gives kind n f)
-  unfolding concedes gives
-  gives-chain e =
-      sym (ap (λ (k : ℕ). stored (gives k n f)) e ∙ stored-behind (compensating f (n - 2)) (at 3 e .full (λ q. omega arith)))
+  pub laid-shift : (w : ℕ) (e : List ℕ) → kind ≡ 2 → e ≡ laid d first w (given d 2 named) → e ≡ laid d first w (stored (given d kind named))
+  unfolding concedes
+  laid-shift w e k here =
+      let all = stored-all (given d 2 named) (at 2 k .full (λ q. omega arith)) in
+      here ∙ ap (laid d first w) (sym (ap (λ (j : ℕ). stored (given d j named)) k ∙ all))
+
+  pub laid-chain : (w : ℕ) (e : List ℕ) → kind ≡ 3 → e ≡ laid d first w (compensating f (n - 2)) → e ≡ laid d first w (stored (given d kind named))
+  unfolding concedes given gives
+  laid-chain w e k here =
+      let all = stored-behind (compensating f (n - 2)) (at 3 k .full (λ q. omega arith)) in
+      here ∙ ap (laid d first w) (sym (ap (λ (j : ℕ). stored (given d j named)) k ∙ all))
 
   module _ (a : kind ≡ 1 → ⊥) (b : kind ≡ 2 → ⊥) (c : kind ≡ 3 → ⊥) where
     four : kind ≡ 4
@@ -59,10 +65,8 @@ module _ (d : List ℕ) (kind : ℕ) (named : List ℕ) (first : ℕ) (p : Fitti
     unfolding fewerAdded
     room-fork = at 4 four .room
 
-    pub gives-fork : forkRows (n - 4) f ≡ stored (gives kind n f)
-    unfolding concedes gives forkRows forkEnd
-    gives-fork =
-        sym (ap (λ (k : ℕ). stored (gives k n f)) four ∙ stored-behind (forkRows (n - 4) f) (at 4 four .full (λ q. omega arith)))
-
-pub gives-merge : (kind n : ℕ) (f : ℕ → Lits) → kind ≡ 1 → stored (gives 1 n f) ≡ stored (gives kind n f)
-gives-merge kind n f e = sym (ap (λ (k : ℕ). stored (gives k n f)) e)
+    pub laid-fork : (w : ℕ) (e : List ℕ) → e ≡ laid d first w (forkRows d named) → e ≡ laid d first w (stored (given d kind named))
+    unfolding concedes given gives forkRows forkEnd
+    laid-fork w e here =
+        let all = stored-behind (forkRows d named) (at 4 four .full (λ q. omega arith)) in
+        here ∙ ap (laid d first w) (sym (ap (λ (j : ℕ). stored (given d j named)) four ∙ all))

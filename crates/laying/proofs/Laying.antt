@@ -1,24 +1,27 @@
 -- New rows, one behind the other: a row more, and the remnants of rows before them, which they do not touch.
-use Prim.Native.Nat.{ℕ, suc, _+_, _*_, _≤_, _<_}
+use Prim.Native.Nat.{ℕ, suc, _+_, _-_, _≤_, _<_}
 use mathlib.Core.Path.{_≡_, refl, sym, ap, _∙_}
 use mathlib.Core.Logic.{⊎-elim, inl}
 use mathlib.Core.List.{List, [], _∷_, _++_}
-use mathlib.Core.Bool.{Bool, true, false, cond}
+use mathlib.Core.Bool.{true, false, cond}
 use native.Mathlib.Omega.{arith}
 use native.Mathlib.Nat.{add-zero}
 use native.Mathlib.Numerals.{add-one}
 use lib.ListN.{length, getD}
 use Rattle.masks.proofs.Choice.{cases}
 use Rattle.literals.specs.declared.Lits.{Lits}
-use Rattle.literals.specs.Lits.{noLits, isEmpty}
+use Rattle.literals.specs.Lits.{noLits, isEmpty, negatedLits, together, less}
 use Rattle.rules.specs.declared.Row.{Row}
-use Rattle.rules.specs.declared.Part.{Part}
 use Rattle.rules.specs.Table.{newRow}
-use Rattle.rules.specs.Desk.{rowPlace, rowOn, setRow, decisions, remnant}
-use Rattle.rules.specs.Rewrite.{remnantOf, stored, empties, reweighed, laid}
+use Rattle.rules.specs.Desk.{rowPlace, rowOn, setRow, decisions}
+use Rattle.rules.specs.Rewrite.{lit, compensating, gives, given, laid}
+use Rattle.rules.specs.Steps.{remnantOf, stored, empties, reweighed}
 use Rattle.desk_laws.proofs.Stores.{laid-out, laid-before, reweighed-lits, reweighed-head}
-use Rattle.fitting.specs.Rows.{OnDesk}
-use Rattle.laying.specs.Room.{Behind}
+use Rattle.step_laws.proofs.Linked.{compensating-count}
+use Rattle.remnants.proofs.Chains.{compensating-more}
+use Rattle.remnants.specs.declared.Ends.{Ends}
+use Rattle.remnants.specs.Rows.{OnDesk, forkEnd}
+use Rattle.laying.specs.Room.{Behind, forkRows}
 
 pub laid-none : (d : List ℕ) (i w : ℕ) → laid d i w [] ≡ d
 unfolding laid
@@ -98,3 +101,41 @@ lies-still d e named n o = record { head = omega (arith, o .head); inside = λ i
 
 pub behind-still : (d e named : List ℕ) (first : ℕ) → length e ≡ length d → Behind d named first → Behind e named first
 behind-still d e named first n b = record { lies = lies-still d e named n (b .lies); before = b .before }
+
+-- ---- what a shift, a turn along a chain and a fork lay, from what their functions find
+
+module _ (d named : List ℕ) (first w : ℕ) where
+  abbrev f : ℕ → Lits
+  f = remnantOf d named
+
+  pub shift-laid : {e : List ℕ} {one second no two turned row : Lits}
+      → one ≡ f 0 → second ≡ f 1 → no ≡ negatedLits one → two ≡ less second no → turned ≡ negatedLits two → row ≡ together one turned
+      → e ≡ laid d first w (row ∷ two ∷ []) → e ≡ laid d first w (given d 2 named)
+  unfolding given gives lit
+  shift-laid o s n l t r here = here ∙ rw (r, t, l, n, s, o)
+
+  -- with the rows of i links laid, the next named row is as it was
+  pub remnant-yet : (i : ℕ) {e : List ℕ} {r : Lits} → getD named (i + 1) 0 < first → e ≡ laid d first w (compensating f i) → r ≡ remnantOf e named (i + 1)
+      → r ≡ f (i + 1)
+  remnant-yet i h laying here =
+      here ∙ ap (λ (x : List ℕ). remnantOf x named (i + 1)) laying ∙ remnant-laid d named first w (compensating f i) (i + 1) h
+
+  pub turn-laid : (i : ℕ) {old e : List ℕ} {row : Row} → old ≡ laid d first w (compensating f i)
+      → row ≡ newRow (together (lit f i) (negatedLits (lit f (i + 1)))) w → e ≡ setRow old (first + i) row
+      → e ≡ laid d first w (compensating f (i + 1))
+  turn-laid i laying r here =
+      let count : first + i ≡ first + length (compensating f i) = ap (λ (k : ℕ). first + k) (sym (compensating-count 0 (omega arith) f i)) in
+      here ∙ rw (laying, r, count, compensating-more f i) (sym (laid-more d first w (compensating f i) _))
+
+  pub fork-laid : {e back : List ℕ} {end : Ends}
+      → let k = length named - 4 in
+      back ≡ laid d first w (compensating f k) → end ≡ forkEnd k f → e ≡ laid back (first + k) w (end .one ∷ end .other ∷ [])
+      → e ≡ laid d first w (forkRows d named)
+  unfolding forkRows
+  fork-laid b n here =
+      let k : ℕ = length named - 4 in
+      let last : List Lits = forkEnd k f .one ∷ forkEnd k f .other ∷ [] in
+      here
+      ∙ rw (b, n)
+      (ap (λ (j : ℕ). laid (laid d first w (compensating f k)) (first + j) w last) (sym (compensating-count 0 (omega arith) f k))
+      ∙ sym (laid-append d first w (compensating f k) last))

@@ -5,42 +5,22 @@ ghost use mathlib.Core.List.{[], _∷_};
 ghost use lib.ListN.{length};
 ghost use Rattle.rules.specs.Table.{rowWords};
 ghost use Rattle.rules.specs.Desk.{headWords};
-ghost use Rattle.rules.specs.Rewrite.{remnantOf, lit, compensating, gives, stored, laid, lightest, mostNamed, rewritingEntry};
-ghost use Rattle.fitting.specs.Rows.{OnDesk};
-ghost use Rattle.laying.specs.Room.{Behind, Fitting, forkEnd, forkRows};
-use crate::Ends;
-use fitting::inner::apart_from;
-use fitting::inner::clash;
-use fitting::inner::follow;
-use fitting::inner::remnant_of;
+ghost use Rattle.rules.specs.Rewrite.{compensating, given, laid, rewritingEntry};
+ghost use Rattle.rules.specs.Steps.{remnantOf, stored, mostNamed};
+ghost use Rattle.laying.specs.Room.{Behind, Fitting, forkRows};
 use literals::Lits;
+use remnants::inner::apart_from;
+use remnants::inner::clash;
+use remnants::inner::fork_end;
+use remnants::inner::remnant_of;
 use rules::Entry;
 use rules::Row;
-use words::inner::row_on;
 use words::inner::set_row;
-
-// The smallest weight among the named rows.
-pub fn lightest(desk: &[u64], named: &[u64]) -> u64
-    requires { ⌜ OnDesk (now desk) (now named) ⌝ }
-    requires { ⌜ 1 ≤ length (now named) ⌝ }
-    ensures { λ r. ⌜ r ≡ lightest (now (desk .entry)) (now (named .entry)) ⌝ }
-{
-    let mut least = row_on(desk, named[0] as usize).weight;
-    let mut i = 1;
-    while i < named.len() {
-        let w = row_on(desk, named[i] as usize).weight;
-        if w < least {
-            least = w;
-        }
-        i += 1;
-    }
-    least
-}
 
 // Lays the new rows from row `first` on.
 pub fn lay(desk: &mut [u64], kind: u64, named: &[u64], first: usize, w: u64)
     requires { ⌜ Fitting (now desk) kind (now named) first ⌝ }
-    ensures { λ _. ⌜ now (desk .exit) ≡ laid (now (desk .entry)) first w (stored (gives kind (length (now (named .entry))) (remnantOf (now (desk .entry)) (now (named .entry))))) ⌝ }
+    ensures { λ _. ⌜ now (desk .exit) ≡ laid (now (desk .entry)) first w (stored (given (now (desk .entry)) kind (now (named .entry)))) ⌝ }
 {
     if kind == 1 {
         lay_merge(desk, named, first, w);
@@ -62,7 +42,7 @@ fn lay_merge(desk: &mut [u64], named: &[u64], first: usize, w: u64)
     requires { ⌜ Behind (now desk) (now named) first ⌝ }
     requires { ⌜ 2 ≤ length (now named) ⌝ }
     requires { ⌜ headWords + rowWords * (first + 1) ≤ length (now desk) ⌝ }
-    ensures { λ _. ⌜ now (desk .exit) ≡ laid (now (desk .entry)) first w (stored (gives 1 (length (now (named .entry))) (remnantOf (now (desk .entry)) (now (named .entry))))) ⌝ }
+    ensures { λ _. ⌜ now (desk .exit) ≡ laid (now (desk .entry)) first w (stored (given (now (desk .entry)) 1 (now (named .entry)))) ⌝ }
 {
     let l = remnant_of(desk, named, 0);
     let m = remnant_of(desk, named, 1);
@@ -87,7 +67,7 @@ fn lay_shift(desk: &mut [u64], named: &[u64], first: usize, w: u64)
     requires { ⌜ Behind (now desk) (now named) first ⌝ }
     requires { ⌜ 2 ≤ length (now named) ⌝ }
     requires { ⌜ headWords + rowWords * (first + 2) ≤ length (now desk) ⌝ }
-    ensures { λ _. ⌜ now (desk .exit) ≡ laid (now (desk .entry)) first w (gives 2 (length (now (named .entry))) (remnantOf (now (desk .entry)) (now (named .entry)))) ⌝ }
+    ensures { λ _. ⌜ now (desk .exit) ≡ laid (now (desk .entry)) first w (given (now (desk .entry)) 2 (now (named .entry))) ⌝ }
 {
     let one = remnant_of(desk, named, 0);
     let two = remnant_of(desk, named, 1).less(one.negated());
@@ -111,28 +91,12 @@ fn lay_back(desk: &mut [u64], named: &[u64], k: usize, first: usize, w: u64)
     }
 }
 
-// (a, not b, not c) and (not a, b, c).
-fn fork_end(desk: &[u64], named: &[u64], k: usize) -> Ends
-    requires { ⌜ OnDesk (now desk) (now named) ⌝ }
-    requires { ⌜ k + 4 ≤ length (now named) ⌝ }
-    ensures { λ r. ⌜ r ≡ forkEnd k (remnantOf (now (desk .entry)) (now (named .entry))) ⌝ }
-{
-    let a = follow(desk, named, k).lit;
-    let no = a.negated();
-    let b = remnant_of(desk, named, k + 1).less(no);
-    let c = remnant_of(desk, named, k + 2).less(no);
-    let bc = b.together(c);
-    let one = a.together(bc.negated());
-    let other = no.together(bc);
-    Ends { one, other }
-}
-
 // k rows (li, not l(i+1)); (a, not b, not c); (not a, b, c).
 fn lay_fork(desk: &mut [u64], named: &[u64], first: usize, w: u64)
     requires { ⌜ Behind (now desk) (now named) first ⌝ }
     requires { ⌜ 4 ≤ length (now named) ⌝ }
     requires { ⌜ headWords + rowWords * (first + (length (now named) - 2)) ≤ length (now desk) ⌝ }
-    ensures { λ _. ⌜ now (desk .exit) ≡ laid (now (desk .entry)) first w (forkRows (length (now (named .entry)) - 4) (remnantOf (now (desk .entry)) (now (named .entry)))) ⌝ }
+    ensures { λ _. ⌜ now (desk .exit) ≡ laid (now (desk .entry)) first w (forkRows (now (desk .entry)) (now (named .entry))) ⌝ }
 {
     let k = named.len() - 4;
     let end = fork_end(desk, named, k);

@@ -4,3 +4,4 @@ pub mod OneBit
 pub mod TwoMasks
 pub mod OneLiteral
 pub mod Examples
+pub mod Offers

@@ -35,11 +35,7 @@ bitOf z = cond (eqb (size z) 0) 0 (single (size z - 1))
 
 -- the literal alone, as a set: its bit, in the mask of its sign
 unfoldable pub litsOf : ℤ → Lits
-litsOf z =
-    record {
-      positive = cond (isPositive z) (bitOf z) 0;
-      negative = cond (isPositive z) 0 (bitOf z);
-    }
+litsOf z = record { positive = cond (isPositive z) (bitOf z) 0; negative = cond (isPositive z) 0 (bitOf z) }
 
 -- what is no literal is refused
 unfoldable pub offered : ℤ → Offered

@@ -1,7 +1,7 @@
 // A literal as a kind of value, and a set of literals as two masks. No method asks anything of its value: a number that
 // is no literal can be held, and each definition says what becomes of it.
 ghost use mathlib.Core.Path.{_≡_};
-ghost use Rattle.literals.specs.Literal.{mostVariables, size, isPositive, isLiteral, opposite, bitOf, litsOf, offered};
+ghost use Rattle.literals.specs.Literal.{size, isPositive, isLiteral, opposite, bitOf, litsOf, offered};
 ghost use Rattle.literals.specs.Lits.{noLits, negatedLits, together, less, variablesOf, isEmpty, sameLits, isOne};
 
 pub struct Literal {
@@ -24,12 +24,6 @@ impl Literal {
     // How many variables there can be, and so the largest size of a literal.
     pub const MOST: u64 = 64;
 
-    pub fn most() -> u64
-        ensures { λ r. ⌜ r ≡ mostVariables ⌝ }
-    {
-        Literal::MOST
-    }
-
     // Any number may be offered; what is no literal is refused.
     pub fn new(value: i64) -> Offered
         ensures { λ r. ⌜ r ≡ offered value ⌝ }
@@ -42,7 +36,7 @@ impl Literal {
         }
     }
 
-    pub fn is_literal(self) -> bool
+    fn is_literal(self) -> bool
         ensures { λ r. ⌜ r ≡ isLiteral (self .value) ⌝ }
     {
         let n = self.size();

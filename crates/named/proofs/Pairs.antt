@@ -1,13 +1,12 @@
--- Rows named twice: a repeated pair refutes that all are distinct, and passing every pair proves it. And how often a kind concedes.
-use Prim.Native.Nat.{ℕ, zero, suc, _≤_, _<_}
-use native.Mathlib.Omega.{arith}
-use mathlib.Core.Path.{_≡_, refl, ap, _∙_}
+-- Rows named twice: a repeated pair refutes that all are distinct, and passing every pair proves it.
+use Prim.Native.Nat.{ℕ, _<_}
+use mathlib.Core.Path.{_≡_, ap}
 use mathlib.Core.Bool.{Bool, true, false, not}
 use lib.Dec.{eqb}
 use borrow.Author.Tests.{eq-eqb}
 use Rattle.masks.specs.Sums.{every}
 use Rattle.masks.proofs.Sums.{every-false}
-use Rattle.rules.specs.Rewrite.{distinct, concedes}
+use Rattle.rules.specs.Steps.{distinct}
 
 -- no row before b is the same as row b
 abbrev pub fresh : (ℕ → ℕ) → ℕ → ℕ → Bool
@@ -22,13 +21,3 @@ pair-found n row a b l h e =
 pub none-found : (n : ℕ) (row : ℕ → ℕ) → every n (λ j. every j (fresh row j)) ≡ true → not (distinct n row) ≡ false
 unfolding distinct
 none-found n row e = ap not e
-
--- w is conceded at most once, whatever the kind
-pub concedes-once : (kind : ℕ) → concedes kind ≤ 1
-unfolding concedes
-concedes-once zero = omega arith
-concedes-once (suc zero) = omega arith
-concedes-once (suc (suc zero)) = omega arith
-concedes-once (suc (suc (suc zero))) = omega arith
-concedes-once (suc (suc (suc (suc zero)))) = omega arith
-concedes-once (suc (suc (suc (suc (suc k))))) = omega arith

@@ -5,7 +5,7 @@ use mathlib.Core.List.{List}
 use native.Mathlib.Numerals.{add-one}
 use Rattle.rules.specs.declared.Row.{Row}
 use Rattle.rules.specs.Desk.{rowOn, setWeight}
-use Rattle.rules.specs.Rewrite.{reweighed}
+use Rattle.rules.specs.Steps.{reweighed}
 use Rattle.desk_laws.proofs.Stores.{Distinct, reweighed-other}
 
 module _ (new row : ℕ → ℕ) (d : List ℕ) where

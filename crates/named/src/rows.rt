@@ -4,7 +4,7 @@ ghost use mathlib.Core.Bool.{not};
 ghost use lib.ListN.{length, getD};
 ghost use lib.Dec.{ltb};
 ghost use Rattle.masks.specs.Sums.{every};
-ghost use Rattle.rules.specs.Rewrite.{distinct};
+ghost use Rattle.rules.specs.Steps.{distinct};
 
 // Every row named is below a limit.
 pub fn all_below(named: &[u64], limit: u64) -> bool

@@ -5,10 +5,10 @@ ghost use Rattle.rules.specs.Desk.{loadWhy, loadDesk, wellFormed};
 ghost use Rattle.rules.specs.Decide.{decideWhy, decideDesk};
 ghost use Rattle.rules.specs.Rewrite.{rewriteWhy, rewriteDesk};
 ghost use Rattle.rules.specs.TakeBack.{takeBackWhy, takeBackDesk};
-ghost use Rattle.olikumpasho.specs.Told.{told, byWeighed, weightOut};
-use crate::tell::tell;
+ghost use Rattle.telling.specs.Told.{told, byWeighed, weightOut};
 use rules::Judged;
 use rules::Weighed;
+use telling::inner::tell;
 
 #[no_mangle]
 pub extern "C" fn olikumpasho_weight_of(

@@ -2,5 +2,4 @@
 // and how a refusal is told stands in `olikumpasho.h`, function by function.
 pub mod desks;
 pub mod searches;
-mod tell;
 pub mod texts;

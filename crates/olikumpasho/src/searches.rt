@@ -2,14 +2,12 @@
 ghost use mathlib.Core.Path.{_≡_};
 ghost use Rattle.rules.specs.Bound.{bounded};
 ghost use Rattle.rules.specs.Walk.{searched};
-ghost use Rattle.olikumpasho.specs.Told.{told, byBounded, boundOut, bySearched, foundOut, statusWord, foundWords};
-use crate::tell::tell;
-use rules::Best;
+ghost use Rattle.telling.specs.Told.{told, byBounded, boundOut, bySearched, foundOut};
 use rules::Bounded;
-use rules::Found;
 use rules::Judged;
 use rules::Searched;
-use rules::Status;
+use telling::found_words;
+use telling::inner::tell;
 
 #[no_mangle]
 pub extern "C" fn olikumpasho_bound(desk: &[u64], least: &mut u64) -> u64
@@ -22,28 +20,6 @@ pub extern "C" fn olikumpasho_bound(desk: &[u64], least: &mut u64) -> u64
             *least = b;
             0
         }
-    }
-}
-
-fn status_word(s: Status) -> u64
-    ensures { λ r. ⌜ r ≡ statusWord s ⌝ }
-{
-    match s {
-        Status::Done => 0,
-        Status::Stopped => 1,
-    }
-}
-
-// Status, how many readings are kept, weight, reading, nodes.
-fn found_words(f: Found) -> [u64; 5]
-    ensures { λ r. ⌜ r ≡ foundWords f ⌝ }
-{
-    let s = f.status;
-    let status = status_word(s);
-    let best = f.best;
-    match best {
-        Best::Nothing => [status, 0, 0, 0, f.nodes],
-        Best::Reading { weight, reading } => [status, 1, weight, reading, f.nodes],
     }
 }
 

@@ -4,11 +4,11 @@ ghost use lib.ListN.{length};
 ghost use Rattle.rules.specs.Text.{written, writeOut};
 ghost use Rattle.rules.specs.Reader.{textRead, readTable};
 ghost use Rattle.rules.specs.Program.{answered, answerOut};
-ghost use Rattle.olikumpasho.specs.Told.{told, byTextRead, headOut, byWritten, lengthOut};
-use crate::tell::tell;
+ghost use Rattle.telling.specs.Told.{told, byTextRead, headOut, byWritten, lengthOut};
 use rules::Judged;
 use rules::TextRead;
 use rules::Written;
+use telling::inner::tell;
 
 #[no_mangle]
 pub extern "C" fn olikumpasho_read(text: &[u8], table: &mut [u64], head: &mut [u64; 3]) -> u64

@@ -2,7 +2,7 @@
 ghost use mathlib.Core.Path.{_≡_};
 ghost use Prim.Native.Nat.{_-_};
 ghost use lib.ListN.{length, getD};
-ghost use Rattle.rules.specs.Text.{equalSign};
+ghost use Rattle.text_laws.specs.Keys.{equalSign};
 ghost use Rattle.rules.specs.Reader.{numberLine};
 use crate::bytes;
 use crate::numbers;

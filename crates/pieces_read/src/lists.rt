@@ -1,61 +1,51 @@
 // The literals to the end of a line: parted by one space, variables strictly rising.
 ghost use mathlib.Core.Path.{_≡_};
-ghost use Prim.Native.Nat.{suc, _≤_};
+ghost use mathlib.Core.Bool.{true};
+ghost use Prim.Native.Nat.{suc};
 ghost use Rattle.literals.specs.Literal.{mostVariables};
 ghost use Rattle.literals.specs.Lits.{noLits};
-ghost use Rattle.rules.specs.Reader.{numberAt, literalOf, literalAt, withLiteral, litsFrom};
+ghost use Rattle.rules.specs.Reader.{numberAt, literalOf, literalAt, litsFrom};
+ghost use Rattle.pieces_read.specs.Literals.{literalRead};
+use crate::LiteralRead;
 use crate::bytes;
 use crate::numbers;
 use literals::Literal;
 use literals::Lits;
+use literals::Offered;
 use rules::Listed;
 use rules::Parsed;
-use rules::Signed;
 
-// The literal of this sign whose number stands at the place, on a variable above the last.
-fn signed_at(s: &[u8], from: usize, positive: bool, last: u64) -> Signed
-    ensures { λ r. ⌜ r ≡ literalOf positive last (numberAt (now (s .entry)) from) ⌝ }
+// The literal of the variable whose number stands at the place, above the last.
+fn variable_at(s: &[u8], from: usize, last: u64) -> LiteralRead
+    ensures { λ r. ⌜ r ≡ literalRead (literalOf true last (numberAt (now (s .entry)) from)) ⌝ }
 {
     let Parsed::Number { value, next } = numbers::number_at(s, from) else {
-        return Signed::Broken;
+        return LiteralRead::Broken;
     };
-    if (last < value) & (value <= Literal::MOST) {
-        Signed::Literal {
-            positive,
-            variable: value,
-            next,
-        }
+    let Offered::Fine(literal) = Literal::new(value as i64) else {
+        return LiteralRead::Broken;
+    };
+    if last < value {
+        LiteralRead::Literal { literal, next }
     } else {
-        Signed::Broken
+        LiteralRead::Broken
     }
 }
 
-fn literal_at(s: &[u8], at: usize, last: u64) -> Signed
-    ensures { λ r. ⌜ r ≡ literalAt (now (s .entry)) at last ⌝ }
+// A minus stands before a negative one, which is the opposite of the literal behind it.
+fn literal_at(s: &[u8], at: usize, last: u64) -> LiteralRead
+    ensures { λ r. ⌜ r ≡ literalRead (literalAt (now (s .entry)) at last) ⌝ }
 {
-    if bytes::byte_at(s, at) == b'-' {
-        signed_at(s, at + 1, false, last)
-    } else {
-        signed_at(s, at, true, last)
+    if bytes::byte_at(s, at) != b'-' {
+        return variable_at(s, at, last);
     }
-}
-
-fn with_literal(l: Lits, positive: bool, variable: u64) -> Lits
-    requires { ⌜ 1 ≤ variable ⌝ }
-    ensures { λ r. ⌜ r ≡ withLiteral l positive variable ⌝ }
-{
-    let v = variable - 1;
-    let bit = masks::single(v);
-    if positive {
-        Lits {
-            positive: l.positive | bit,
-            negative: l.negative,
-        }
-    } else {
-        Lits {
-            positive: l.positive,
-            negative: l.negative | bit,
-        }
+    let LiteralRead::Literal { literal, next } = variable_at(s, at + 1, last) else {
+        return LiteralRead::Broken;
+    };
+    let opposite = literal.negated();
+    LiteralRead::Literal {
+        literal: opposite,
+        next,
     }
 }
 
@@ -79,16 +69,11 @@ pub fn lits_from(s: &[u8], from: usize) -> Listed
             }
             at += 1;
         }
-        let Signed::Literal {
-            positive,
-            variable,
-            next,
-        } = literal_at(s, at, last)
-        else {
+        let LiteralRead::Literal { literal, next } = literal_at(s, at, last) else {
             return Listed::Broken;
         };
-        lits = with_literal(lits, positive, variable);
-        last = variable;
+        lits = lits.together(literal.lits());
+        last = literal.size();
         at = next;
         i += 1;
     }

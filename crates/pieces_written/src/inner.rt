@@ -1,7 +1,6 @@
 // What lines are written of. A byte is stored only where there is room, so that a run over no room at all tells how long a text is.
 // A place that a text of this form reaches is far below the limit that each function asks for.
-ghost use mathlib.Core.Path.{_≡_};
-ghost use Prim.Native.Nat.{_+_, _*_, _<_, _≤_, _^_};
+ghost use Prim.Native.Nat.{_+_, _<_, _≤_, _^_};
 ghost use mathlib.Core.List.{[], _∷_};
 ghost use lib.ListN.{length};
 ghost use Rattle.literals.specs.Literal.{mostVariables};

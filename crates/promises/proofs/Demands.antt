@@ -1,105 +1,106 @@
 -- The demands hold. Each is put together here from the laws of the crates below: steps and runs (step_laws), bound and walk (walk_laws), text (text_laws).
-use Prim.Native.Nat.{ℕ, _+_, _≤_}
-use mathlib.Core.Path.{_≡_, refl, sym, ap, ap₂, _∙_, subst}
+use Prim.Native.Nat.{ℕ, _≤_}
+use mathlib.Core.Path.{_≡_, refl, sym, ap, _∙_, subst}
 use mathlib.Core.List.{List, _++_}
 use mathlib.Core.Bool.{true}
+use native.Mathlib.Omega.{arith}
 use borrow.Author.Tests.{eqb-true, le-ltb}
-use lib.ListN.{length, drop}
+use lib.ListN.{length, take, drop}
 use lib.Dec.{eqb}
 use lib.Bits.{bitAnd}
 use lib.IntN.{ℤ}
 use Rattle.masks.specs.Masks.{below}
 use Rattle.masks.proofs.Choice.{and-right, impossible}
-use Rattle.rules.specs.declared.HeadRead.{HeadRead}
 use Rattle.rules.specs.declared.Judged.{Judged}
 use Rattle.rules.specs.declared.Judged.the-variants.{Fine, Refused}
 use Rattle.rules.specs.declared.Bounded.{Bounded}
-use Rattle.rules.specs.declared.TextRead.{TextRead}
+use Rattle.rules.specs.declared.Searched.{Searched}
 use Rattle.rules.specs.declared.Written.{Written}
-use Rattle.rules.specs.Refusals.{isFine, unlessRefused}
-use Rattle.rules.specs.Table.{rowCount, weighs, tableWhy}
+use Rattle.rules.specs.Refusals.{unlessRefused}
+use Rattle.rules.proofs.Judging.{isFine}
+use Rattle.rules.specs.Table.{tableWhy}
 use Rattle.rules.specs.Desk.{variables, decided, truths, deskWords, wellFormed, loadWhy, loadStep, loadDesk, decisions, deskWeighs, keeps}
 use Rattle.rules.specs.Decide.{decideWhy, decideStep, decideDesk}
 use Rattle.rules.specs.Rewrite.{rewriteWhy, rewriteStep, rewriteDesk}
 use Rattle.rules.specs.TakeBack.{takeBackWhy, takeBackStep, takeBackDesk}
 use Rattle.rules.specs.Bound.{bound, deskWhy, bounded}
-use Rattle.rules.specs.Walk.{searched}
+use Rattle.rules.specs.Walk.{foundBy, walkIn, searched}
 use Rattle.rules.specs.Text.{tableText, writeWhy, writeStep, written, writeOut}
-use Rattle.rules.specs.Reader.{headAt, readWhy, readWords, readStep, textRead, readTable}
-use Rattle.rules.specs.Program.{answer, answerWhy, answerStep, answered, answerOut}
+use Rattle.rules.specs.Reader.{readWhy, readStep, readTable}
+use Rattle.rules.specs.Program.{answer, answerWhy, answerStep, answerOut}
 use Rattle.rules.specs.Calls.{Call, afterCalls}
-use Rattle.step_laws.specs.Standing.{standingCalls}
+use Rattle.step_laws.specs.Standing.{standingCalls, AllFine, LoadsRefused}
 use Rattle.desk_laws.proofs.Formed.{formed}
-use Rattle.step_laws.proofs.Runs.{run-weighs, run-replays, run-accepted, run-standing, run-never-ten, run-formed}
+use Rattle.step_laws.proofs.Runs.{run-weighs, run-standing, run-never-ten, run-formed}
+use Rattle.step_laws.proofs.Replays.{run-again, run-accepted-again, run-untouched, run-masks}
 use Rattle.walk_laws.proofs.Bounds.{bound-below}
-use Rattle.rules.proofs.Admissible.{table-fine}
-use Rattle.text_laws.proofs.RoundTrip.{ReadBack, round-trip}
+use Rattle.text_laws.proofs.RoundTrip.{round-trip}
 use Rattle.text_laws.proofs.Converse.{converse}
-use Rattle.promises.specs.Orders.{Rule, Said, accepted, refused, judged, reading, writing}
-use Rattle.promises.specs.Demands.{Refuses, Demand1, Demand2, Kept, Demand3}
-use Rattle.promises.proofs.EntryPoints as entry
-use Rattle.promises.proofs.Refusing.{firstOf, exactly, read-judged, written-judged, load-said, decide-said, rewrite-said, take-back-said}
-use Rattle.promises.proofs.Refusing.{read-said, write-said, weigh-said, bound-said, search-said, answer-said}
-use Rattle.promises.proofs.Programs.{program-answers}
-use Rattle.promises.proofs.Rewriting.{rewriting, fourteen-when}
+use Rattle.telling.specs.Told.{told}
+use Rattle.telling.proofs.Places.{number-small}
+use Rattle.contracts.proofs.Tied.{tied-in-code}
+use Rattle.contracts.proofs.TiedC.{tied-in-c}
+use Rattle.promises.specs.Demands.{Unchanged, Demand1, Demand2, Kept, Demand3}
+use Rattle.promises.proofs.Refusing.{exactly}
+use Rattle.promises.proofs.Lines.{read-back, by-lines}
+use Rattle.promises.proofs.Rewriting.{rewriting, judges}
 use Rattle.promises.proofs.Searching.{search-finished, search-stopped, readings-in-order, search-stop-rule}
 
 -- ---- demand 1
 
 -- a refused call leaves what it found
-left : (j : Judged) (step found : List ℕ) (number place : ℕ) → judged j ≡ refused number place → unlessRefused j step found ≡ found
-left Fine step found number place e = impossible (cc)
-left (Refused r) step found number place e = refl
+left : (j : Judged) (step found : List ℕ) → Unchanged j found (unlessRefused j step found)
+left Fine step found r e = impossible (cc)
+left (Refused q) step found r e = refl
 
-load-refuses : (n : ℕ) (table : List ℕ) (c : ℕ) (d : List ℕ) (number place : ℕ) → judged (loadWhy n table c d) ≡ refused number place → loadDesk n table c d ≡ d
+load-left : (n : ℕ) (table : List ℕ) (c : ℕ) (d : List ℕ) → Unchanged (loadWhy n table c d) d (loadDesk n table c d)
 unfolding loadDesk
-load-refuses n table c d number place = left (loadWhy n table c d) (loadStep n table c d) d number place
+load-left n table c d = left (loadWhy n table c d) (loadStep n table c d) d
 
-decide-refuses : (d : List ℕ) (literal : ℤ) (number place : ℕ) → judged (decideWhy d literal) ≡ refused number place → decideDesk d literal ≡ d
+decide-left : (d : List ℕ) (literal : ℤ) → Unchanged (decideWhy d literal) d (decideDesk d literal)
 unfolding decideDesk
-decide-refuses d literal number place = left (decideWhy d literal) (decideStep d literal) d number place
+decide-left d literal = left (decideWhy d literal) (decideStep d literal) d
 
-rewrite-refuses : (d : List ℕ) (kind : ℕ) (named : List ℕ) (number place : ℕ) → judged (rewriteWhy d kind named) ≡ refused number place
-    → rewriteDesk d kind named ≡ d
+rewrite-left : (d : List ℕ) (kind : ℕ) (named : List ℕ) → Unchanged (rewriteWhy d kind named) d (rewriteDesk d kind named)
 unfolding rewriteDesk
-rewrite-refuses d kind named number place = left (rewriteWhy d kind named) (rewriteStep d kind named) d number place
+rewrite-left d kind named = left (rewriteWhy d kind named) (rewriteStep d kind named) d
 
-take-back-refuses : (d : List ℕ) (number place : ℕ) → judged (takeBackWhy d) ≡ refused number place → takeBackDesk d ≡ d
+take-back-left : (d : List ℕ) → Unchanged (takeBackWhy d) d (takeBackDesk d)
 unfolding takeBackDesk
-take-back-refuses d number place = left (takeBackWhy d) (takeBackStep d) d number place
+take-back-left d = left (takeBackWhy d) (takeBackStep d) d
 
-read-refuses : (text table : List ℕ) (number place : ℕ) → reading (textRead text (length table)) ≡ refused number place → readTable text table ≡ table
-unfolding textRead readTable readWhy
-read-refuses text table number place e =
-    left (readWhy text (length table)) (readStep text table) table number place (sym (read-judged text (length table) (headAt text)) ∙ e)
+read-left : (text table : List ℕ) → Unchanged (readWhy text (length table)) table (readTable text table)
+unfolding readTable
+read-left text table = left (readWhy text (length table)) (readStep text table) table
 
-write-refuses : (n budget : ℕ) (table out : List ℕ) (number place : ℕ) → writing (written n budget table out) ≡ refused number place
-    → writeOut n budget table out ≡ out
-unfolding written writeOut
-write-refuses n budget table out number place e =
-    left (writeWhy n budget table out) (writeStep n budget table out) out number place (sym (written-judged (writeWhy n budget table out) _) ∙ e)
+write-left : (n budget : ℕ) (table out : List ℕ) → Unchanged (writeWhy n budget table out) out (writeOut n budget table out)
+unfolding writeOut
+write-left n budget table out = left (writeWhy n budget table out) (writeStep n budget table out) out
 
-answer-refuses : (input output : List ℕ) (number place : ℕ) → writing (answered input output) ≡ refused number place → answerOut input output ≡ output
-unfolding answered answerOut
-answer-refuses input output number place e =
-    left (answerWhy input output) (answerStep input output) output number place (sym (written-judged (answerWhy input output) _) ∙ e)
+answer-left : (input output : List ℕ) → Unchanged (answerWhy input output) output (answerOut input output)
+unfolding answerOut
+answer-left input output = left (answerWhy input output) (answerStep input output) output
+
+zero-fine : (j : Judged) → told j ≡ 0 → j ≡ Fine
+zero-fine Fine e = refl
+zero-fine (Refused r) e = absurd (omega (arith, number-small r, e))
 
 pub demand-1 : Demand1
 demand-1 =
     record {
-      met = entry.met;
-      asked = entry.asked;
-      load = λ n table c d. record { exactly = exactly _ _ (load-said n table c d); unchanged = load-refuses n table c d };
-      decide = λ d literal. record { exactly = exactly _ _ (decide-said d literal); unchanged = decide-refuses d literal };
-      rewrite = λ d kind named. record { exactly = exactly _ _ (rewrite-said d kind named); unchanged = rewrite-refuses d kind named };
-      takeBack = λ d. record { exactly = exactly _ _ (take-back-said d); unchanged = take-back-refuses d };
-      read = λ text table. record { exactly = exactly _ _ (read-said text (length table)); unchanged = read-refuses text table };
-      write = λ n budget table out. record { exactly = exactly _ _ (write-said n budget table out); unchanged = write-refuses n budget table out };
-      weight = λ n table full. exactly _ _ (weigh-said n table full);
-      bound = λ d. exactly _ _ (bound-said d);
-      search = λ d budget. exactly _ _ (search-said d budget);
-      answer = λ input output. record { exactly = exactly _ _ (answer-said input output); unchanged = answer-refuses input output };
-      program = program-answers;
+      code = tied-in-code;
+      forC = tied-in-c;
+      exactly = exactly;
+      accepted = λ j. (zero-fine j, λ e. ap told e);
+      number = λ r. omega (arith, number-small r);
+      place = λ r. omega (arith, number-small r);
+      load = load-left;
+      decide = decide-left;
+      rewrite = rewrite-left;
+      takeBack = take-back-left;
+      read = read-left;
+      write = write-left;
+      answer = answer-left;
     }
 
 -- ---- demand 2
@@ -112,11 +113,6 @@ table-writes n budget table out fine room =
     let fits = le-ltb (length out) (length (tableText n budget table)) room in
     (rw (fine, fits), rw (fine, fits))
 
-read-back : (n budget : ℕ) (table lent : List ℕ) → ReadBack (tableText n budget table) (length lent) n budget table
-    → readTable (tableText n budget table) lent ≡ table ++ drop (length table) lent
-unfolding readTable readStep
-read-back n budget table lent r = rw (r .fine, r .words)
-
 pub demand-2 : Demand2
 demand-2 =
     record {
@@ -125,21 +121,16 @@ demand-2 =
       inOrder = readings-in-order;
       stopRule = search-stop-rule;
       rewritten = rewriting;
-      fourteen = fourteen-when;
+      judging = judges;
       writes = table-writes;
       readsBack = λ n budget table lent fine b room.
           let r = round-trip n budget table (length lent) (ap isFine fine) b room in
           (r .answer, read-back n budget table lent r);
       noOther = λ text lent n budget m table answer words. converse text (length lent) n budget m answer ∙ ap (tableText n budget) words;
+      byLines = by-lines;
     }
 
 -- ---- demand 3
-
--- a load depends on the words lent only past the desk
-load-fresh : (n : ℕ) (table : List ℕ) (c : ℕ) (d fresh : List ℕ) → drop (deskWords c) fresh ≡ drop (deskWords c) d
-    → loadStep n table c fresh ≡ loadStep n table c d
-unfolding loadStep
-load-fresh n table c d fresh e = rw e
 
 load-laid : (n : ℕ) (table : List ℕ) (c : ℕ) (d : List ℕ) → loadWhy n table c d ≡ Fine → loadDesk n table c d ≡ loadStep n table c d
 unfolding loadDesk
@@ -149,6 +140,10 @@ bound-given : (d : List ℕ) → wellFormed d ≡ true → bounded d ≡ Bounded
 unfolding bounded deskWhy
 bound-given d w = rw w
 
+search-given : (d : List ℕ) (budget : ℕ) → wellFormed d ≡ true → searched d budget ≡ Searched.Found (foundBy (walkIn d budget))
+unfolding searched deskWhy
+search-given d budget w = rw w
+
 bound-least : (d : List ℕ) (full b : ℕ) → wellFormed d ≡ true → bounded d ≡ Bounded.Bound b → keeps d full ≡ true → b ≤ deskWeighs d full
 unfolding keeps decisions
 bound-least d full b w answer k =
@@ -156,23 +151,32 @@ bound-least d full b w answer k =
     let same : b ≡ bound d (decisions d) = let given = bound-given d w in cc in
     rw same (bound-below d (decisions d) full agrees (formed d w .named))
 
-run-kept : (n : ℕ) (table : List ℕ) (c : ℕ) (d : List ℕ) → loadWhy n table c d ≡ Fine → (calls : List Call)
+run-kept : (n : ℕ) (table : List ℕ) (c : ℕ) (d : List ℕ) → loadWhy n table c d ≡ Fine → (calls : List Call) → LoadsRefused (loadStep n table c d) calls
     → Kept n table c d calls (loadStep n table c d) (afterCalls (loadStep n table c d) calls)
-run-kept n table c d fine calls =
+run-kept n table c d fine calls loads =
     let after : List ℕ = afterCalls (loadStep n table c d) calls in
-    let well : wellFormed after ≡ true = run-formed n table c d fine calls in
+    let steps : List Call = standingCalls (loadStep n table c d) calls in
+    let well : wellFormed after ≡ true = run-formed n table c d fine calls loads in
+    let weights = run-weighs n table c d fine calls loads in
+    let masks = run-masks n table c d fine calls loads in
     record {
-      weights = run-weighs n table c d fine calls;
-      replayed = λ fresh ok past.
-          run-replays n table c d fine calls
-          ∙ ap (λ (x : List ℕ). afterCalls x (standingCalls (loadStep n table c d) calls))
-          (sym (load-laid n table c fresh ok ∙ load-fresh n table c d fresh past));
-      standingCount = run-standing n table c d fine calls;
-      replaysFine = run-accepted n table c d fine calls;
-      bounds = λ full b answer k. subst (λ (x : ℕ). b ≤ x) (run-weighs n table c d fine calls full k) (bound-least after full b well answer k);
-      neverTen = run-never-ten n table c d fine calls;
+      weights = weights;
+      replayed = λ fresh ok.
+          run-again n table c d fresh fine ok calls loads
+          ∙ ap (λ (x : List ℕ). take (deskWords c) (afterCalls x steps)) (sym (load-laid n table c fresh ok));
+      replaysFine = λ fresh ok.
+          subst (λ (x : List ℕ). AllFine x steps) (sym (load-laid n table c fresh ok)) (run-accepted-again n table c d fresh fine ok calls loads);
+      standingCount = run-standing n table c d fine calls loads;
+      decidedStand = masks .0;
+      trueStand = masks .1;
+      untouched = run-untouched n table c d fine calls loads;
+      bounds = λ full b answer k. subst (λ (x : ℕ). b ≤ x) (weights full k) (bound-least after full b well answer k);
+      neverTen = run-never-ten n table c d fine calls loads;
       boundGiven = bound-given after well;
+      searchGiven = λ budget. search-given after budget well;
     }
 
 pub demand-3 : Demand3
-demand-3 n table c d fine calls = rw (load-laid n table c d fine) (run-kept n table c d fine calls)
+demand-3 n table c d fine calls loads =
+    let laid = load-laid n table c d fine in
+    rw laid (run-kept n table c d fine calls (subst (λ (x : List ℕ). LoadsRefused x calls) laid loads))

@@ -1,15 +1,15 @@
 -- The frauds that document 01 lists ("What each statement has to say"): each falls to a stated fact, on an example that antt computes.
 -- The facts are the demands' own records, so that a demand which a fraud could meet would be seen here.
-use Prim.Native.Nat.{ℕ, suc, _+_, _≤_, _<_}
+use Prim.Native.Nat.{ℕ}
 use mathlib.Core.Path.{_≡_, refl, sym, ap, _∙_}
 use mathlib.Core.List.{List, [], _∷_, _++_}
-use mathlib.Core.Bool.{true, false}
+use mathlib.Core.Bool.{true}
 use mathlib.Core.Logic.{_⊎_, inl, inr}
 use native.Mathlib.Omega.{arith}
 use lib.ListN.{length}
 use lib.IntN.{negsuc}
 use Rattle.masks.proofs.Choice.{impossible}
-use Rattle.masks.specs.Masks.{bit, has, count, without, none, below, single}
+use Rattle.masks.specs.Masks.{bit, has, without, none, below, single}
 use Rattle.masks.specs.Sums.{sum, every}
 use Rattle.masks.specs.Words.{zeroed}
 use Rattle.literals.specs.Literal.{size, isPositive, isLiteral, bitOf, litsOf}
@@ -20,7 +20,7 @@ use Rattle.rules.specs.declared.Best.{Best}
 use Rattle.rules.specs.declared.Found.{Found}
 use Rattle.rules.specs.declared.Bounded.{Bounded}
 use Rattle.rules.specs.declared.Searched.{Searched}
-use Rattle.rules.specs.declared.Judged.the-variants.{Fine}
+use Rattle.rules.specs.declared.Judged.the-variants.{Fine, Refused}
 use Rattle.rules.specs.Table.{rowIn, rowOf, rowCount, holds, givenUp, badTable, badLits, badWeight, rowWhy, rowsWhy, sumTooLarge, rowWordsOf}
 use Rattle.rules.specs.Desk.{standing, rowPlace, entryPlace, deskWords, rowOn, weightOn, reaches, inLimits, rowsSound, weightFits, masksNest}
 use Rattle.rules.specs.Desk.{wellFormed, loadWhy, loadStep, decisions, satisfied, remnant, deskWeighs, keeps}
@@ -31,11 +31,9 @@ use Rattle.rules.specs.Walk.{fixed, visited, keptAt, halted, walk, undecided, a
 use Rattle.rules.specs.Calls.{Call, decide, takeBack, afterCall, afterCalls}
 use Rattle.rules.specs.Examples.{x, not-x, row, lent, desk}
 use Rattle.step_laws.specs.Standing.{standingFrom, standingCalls}
-use Rattle.promises.specs.Orders.{accepted, refused, refusal, judged, ExactlyWhen, loadOrder}
 use Rattle.promises.specs.Searches.{Finished}
 use Rattle.promises.specs.Rewritings.{Rewritten}
 use Rattle.promises.specs.Demands.{Kept}
-use Rattle.promises.proofs.Refusing.{exactly, load-said}
 
 abbrev p2 : List ℕ
 p2 = row (x 1 ∷ []) 3 ++ row (not-x 1 ∷ []) 2
@@ -55,12 +53,8 @@ unfolding loadWhy deskWords rowPlace rowCount rowsWhy rowWhy rowOf rowIn badTabl
     isPositive noLits together sum none without below single
 p2-loads = refl
 
-pub no-refuser : (r : Refusal) → ExactlyWhen (refusal r) (loadOrder 1 p2 2 (lent 2)) → ⊥
-no-refuser r e =
-    let due = exactly _ _ (load-said 1 p2 2 (lent 2)) .accepts (ap judged p2-loads) in
-    let q : refusal r ≡ accepted = e .accepted-when due in
-    let z : _≡_ {A = ℕ} 0 1 = cc in
-    omega arith
+pub no-refuser : (r : Refusal) → loadWhy 1 p2 2 (lent 2) ≡ Refused r → ⊥
+no-refuser r e = let fine = p2-loads in impossible (cc)
 
 -- "A search that returns one reading falls to P2 and P4": no answer with the all-true reading is that of a finished search on P4's desk.
 p4-weighs : (deskWeighs (desk 3 p4 5) 7 ≡ 2) × (deskWeighs (desk 3 p4 5) 6 ≡ 1) × (keeps (desk 3 p4 5) 6 ≡ true)

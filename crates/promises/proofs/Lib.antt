@@ -1,11 +1,6 @@
 pub mod Refusing
-pub mod Programs
-pub mod EntryPoints
 pub mod Rewriting
 pub mod Searching
+pub mod Lines
 pub mod Demands
 pub mod Frauds
-pub mod Embedding
-pub mod Ties
-pub mod Tied
-pub mod TiedC

@@ -1,37 +1,36 @@
 -- A rewriting, word by word. The step is stores: the named rows get their weights, the new rows are laid behind those in use, the head is set and the
 -- entry is entered; each row is found behind the stores that do not touch it, and so is every word that none of them touches.
 use Prim.Native.Nat.{ℕ, suc, _+_, _-_, _*_, _≤_, _<_}
-use mathlib.Core.Path.{_≡_, refl, sym, ap, _∙_}
+use mathlib.Core.Path.{_≡_, refl, sym, _∙_}
 use mathlib.Core.Logic.{_⊎_, inl, inr, ⊎-elim}
+use mathlib.Core.Bool.{Bool, true, false, not}
 use mathlib.Core.List.{List}
 use native.Mathlib.Omega.{arith}
+use borrow.Author.Tests.{ltb-true, ltb-false}
+use lib.Dec.{ltb}
 use lib.ListN.{length, getD}
-use Rattle.masks.proofs.Choice.{impossible, lt-or-le}
+use Rattle.masks.proofs.Choice.{clash, lt-or-le}
 use Rattle.masks.proofs.Sums.{smallest-at}
 use Rattle.literals.specs.declared.Lits.{Lits}
 use Rattle.literals.specs.Lits.{noLits}
-use Rattle.rules.specs.declared.Refusal.the-variants.{TooManyVariables, BadTable, BadCapacity, NoRoom, BadLiterals, BadWeight, SumTooLarge}
-use Rattle.rules.specs.declared.Refusal.the-variants.{BadReading, BadBudget, BadDesk, TooManySteps, BadLiteral, BadNaming, BadFit, DeskFull}
-use Rattle.rules.specs.declared.Refusal.the-variants.{NothingStands, InputTooLong, BadText}
-use Rattle.rules.specs.declared.Judged.{Judged}
-use Rattle.rules.specs.declared.Judged.the-variants.{Fine, Refused}
-use Rattle.rules.specs.Desk.{inUse, standing, entryWords, rowPlace, entryPlace, rowOn}
-use Rattle.rules.specs.Rewrite.{remnantOf, reweighed, given, stored, empties, lightest, rewritingEntry, rewriteWhy, rewriteDesk}
+use Rattle.rules.specs.declared.Refusal.the-variants.{BadFit, DeskFull}
+use Rattle.rules.specs.declared.Judged.the-variants.{Fine}
+use Rattle.rules.specs.Refusals.{refuse}
+use Rattle.rules.specs.Desk.{inUse, capacity, standing, entryWords, rowPlace, entryPlace, rowOn}
+use Rattle.rules.specs.Rewrite.{wellFitted, given, lightest, rewritingEntry, rewriteWhy, rewriteDesk}
+use Rattle.rules.specs.Steps.{wellNamed, remnantOf, reweighed, stored, empties}
 use Rattle.step_laws.specs.StepTable.{FitsALine}
-use Rattle.desk_laws.proofs.Formed.{rows-inside}
+use Rattle.desk_laws.proofs.Formed.{Formed, formed, rows-inside}
 use Rattle.desk_laws.proofs.Stores.{length-reweighed, reweighed-at, laid-before, laid-at}
 use Rattle.desk_laws.proofs.Verdicts as verdicts
 use Rattle.step_laws.proofs.Rewritings.{Plan, rowsAfter, rewritten, step-rewritten, length-rewritten, rewritten-use, rewritten-conceded, rewritten-standing}
 use Rattle.step_laws.proofs.Rewritings.{rewritten-row, rewritten-untouched, rewritten-entry}
 use Rattle.step_laws.proofs.Accepted.{plan, remnants-sound}
 use Rattle.step_laws.proofs.InWords.{words-fit}
-use Rattle.step_laws.proofs.Fitted.{some-named, fourteen}
+use Rattle.step_laws.proofs.Fitted.{some-named, fitted-words, words-fitted}
 use Rattle.step_laws.proofs.Steps.{rewrite-in-words}
-use Rattle.promises.specs.Orders.{refused, judged}
-use Rattle.promises.specs.Rewritings.{FourteenWhen, Changes, rowsInUse, stepsStanding, concededSum, namedRow, newRow, itsEntry, Rewritten}
-
-number-same : {a b p q : ℕ} → refused a p ≡ refused b q → a ≡ b
-number-same e = cc
+use Rattle.promises.specs.Rewritings.{Fitting, fourteen, fifteen, neither, Judging}
+use Rattle.promises.specs.Rewritings.{Changes, rowsInUse, stepsStanding, concededSum, namedRow, newRow, itsEntry, Rewritten}
 
 -- a place is outside what lies from a to b, unless it is in it
 outside : (a b p : ℕ) → (a ≤ p → p < b → ⊥) → (p < a) ⊎ (b ≤ p)
@@ -131,29 +130,23 @@ module _ (d : List ℕ) (kind : ℕ) (named : List ℕ) (fine : rewriteWhy d kin
 
 -- ---- 14
 
--- a call that says 14 refuses so
-said-fourteen : (j : Judged) → judged j ≡ refused 14 0 → j ≡ Refused BadFit
-said-fourteen Fine e = impossible (cc)
-said-fourteen (Refused TooManyVariables) e = absurd (omega (arith, number-same e))
-said-fourteen (Refused BadTable) e = absurd (omega (arith, number-same e))
-said-fourteen (Refused BadCapacity) e = absurd (omega (arith, number-same e))
-said-fourteen (Refused NoRoom) e = absurd (omega (arith, number-same e))
-said-fourteen (Refused (BadLiterals row)) e = absurd (omega (arith, number-same e))
-said-fourteen (Refused (BadWeight row)) e = absurd (omega (arith, number-same e))
-said-fourteen (Refused SumTooLarge) e = absurd (omega (arith, number-same e))
-said-fourteen (Refused BadReading) e = absurd (omega (arith, number-same e))
-said-fourteen (Refused BadBudget) e = absurd (omega (arith, number-same e))
-said-fourteen (Refused BadDesk) e = absurd (omega (arith, number-same e))
-said-fourteen (Refused TooManySteps) e = absurd (omega (arith, number-same e))
-said-fourteen (Refused BadLiteral) e = absurd (omega (arith, number-same e))
-said-fourteen (Refused BadNaming) e = absurd (omega (arith, number-same e))
-said-fourteen (Refused BadFit) e = refl
-said-fourteen (Refused DeskFull) e = absurd (omega (arith, number-same e))
-said-fourteen (Refused NothingStands) e = absurd (omega (arith, number-same e))
-said-fourteen (Refused InputTooLong) e = absurd (omega (arith, number-same e))
-said-fourteen (Refused (BadText line)) e = absurd (omega (arith, number-same e))
+-- what is said behind 13, by what the definitions call fitting
+fitting-in-words : (d : List ℕ) (kind : ℕ) (named : List ℕ) → Formed d → wellNamed d kind named ≡ true → (fit full : Bool)
+    → wellFitted d kind named ≡ fit → ltb (capacity d) (inUse d + length (stored (given d kind named))) ≡ full
+    → Fitting d kind named (refuse (not fit) BadFit (refuse full DeskFull Fine))
+fitting-in-words d kind named desk ok false full e f = fourteen (λ gives line. clash (words-fitted d kind named desk ok line) e)
+fitting-in-words d kind named desk ok true true e f =
+    fifteen (given d kind named) (fitted-words d kind named desk ok e) (ltb-true (capacity d) (inUse d + length (stored (given d kind named))) f)
+fitting-in-words d kind named desk ok true false e f =
+    neither (given d kind named) (fitted-words d kind named desk ok e) (ltb-false (capacity d) (inUse d + length (stored (given d kind named))) f)
 
-pub fourteen-when : (d : List ℕ) (kind : ℕ) (named : List ℕ) → FourteenWhen d kind named (judged (rewriteWhy d kind named))
-fourteen-when d kind named n10 n11 n13 =
-    let exactly = fourteen d kind named (λ e. n10 (ap judged e)) (λ e. n11 (ap judged e)) (λ e. n13 (ap judged e)) in
-    (λ e. exactly .0 (said-fourteen (rewriteWhy d kind named) e), λ none. ap judged (exactly .1 none))
+pub judges : (d : List ℕ) (kind : ℕ) (named : List ℕ) → Judging d kind named (rewriteWhy d kind named)
+unfolding rewriteWhy
+judges d kind named =
+    record {
+      rest =
+          refuse (not (wellFitted d kind named)) BadFit
+          (refuse (ltb (capacity d) (inUse d + length (stored (given d kind named)))) DeskFull Fine);
+      order = refl;
+      inWords = λ desk ok. fitting-in-words d kind named (formed d desk) ok _ _ refl refl;
+    }

@@ -1,9 +1,5 @@
 pub mod Orders
-pub mod EntryPoints
 pub mod Searches
 pub mod Rewritings
+pub mod Lines
 pub mod Demands
-pub mod Embedding
-pub mod Ties
-pub mod Tied
-pub mod TiedC

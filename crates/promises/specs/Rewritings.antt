@@ -2,20 +2,31 @@
 use Prim.Native.Nat.{ℕ, suc, _+_, _-_, _*_, _≤_, _<_}
 use mathlib.Core.Path.{_≡_}
 use mathlib.Core.List.{List, [], _∷_, _++_}
-use mathlib.Core.Logic.{_↔_}
+use mathlib.Core.Bool.{true, not}
+use lib.Dec.{leb}
 use lib.ListN.{length, getD, take, drop, replicate}
 use Rattle.literals.specs.declared.Lits.{Lits}
 use Rattle.literals.specs.Lits.{noLits}
-use Rattle.rules.specs.Desk.{inUse, standing, conceded, rowPlace, entryPlace, rowOn}
-use Rattle.rules.specs.Rewrite.{stored, empties}
+use Rattle.rules.specs.declared.Judged.{Judged}
+use Rattle.rules.specs.declared.Judged.the-variants.{Fine, Refused}
+use Rattle.rules.specs.declared.Refusal.the-variants.{BadDesk, TooManySteps, BadNaming, BadFit, DeskFull}
+use Rattle.rules.specs.Refusals.{_when_, asIn, firstDue}
+use Rattle.rules.specs.Desk.{inUse, capacity, standing, conceded, mostSteps, rowPlace, entryPlace, rowOn, wellFormed}
+use Rattle.rules.specs.Steps.{wellNamed, stored, empties}
 use Rattle.step_laws.specs.StepTable.{FitsALine}
-use Rattle.promises.specs.Orders.{Said, refused}
 
--- "14: a named row spent or satisfied, or the remnants don't fit", in the words of the step table: where no earlier number of the order is given
-abbrev pub FourteenWhen : List ℕ → ℕ → List ℕ → Said → Type 0
-FourteenWhen d kind named said =
-    (said ≡ refused 10 0 → ⊥) → (said ≡ refused 11 0 → ⊥) → (said ≡ refused 13 0 → ⊥)
-    → (said ≡ refused 14 0) ↔ ((gives : List Lits) → FitsALine d kind named gives → ⊥)
+-- "14: a named row spent or satisfied, or the remnants don't fit"; "15: the new rows don't fit the desk", in the words of the step table
+pub data Fitting (d : List ℕ) (kind : ℕ) (named : List ℕ) : Judged → Type 0 where
+  fourteen : ((gives : List Lits) → FitsALine d kind named gives → ⊥) → Fitting d kind named (Refused BadFit)
+  fifteen : (gives : List Lits) → FitsALine d kind named gives → capacity d < inUse d + length (stored gives) → Fitting d kind named (Refused DeskFull)
+  neither : (gives : List Lits) → FitsALine d kind named gives → inUse d + length (stored gives) ≤ capacity d → Fitting d kind named Fine
+
+-- "Rewriting: 10, 11, 13, 14, 15."
+pub record Judging (d : List ℕ) (kind : ℕ) (named : List ℕ) (why : Judged) : Type 0 where
+  pub rest : Judged
+  pub order : why ≡ firstDue (BadDesk when not (wellFormed d) ∷ TooManySteps when leb mostSteps (standing d) ∷ BadNaming when not (wellNamed d kind named)
+      ∷ asIn rest ∷ [])
+  pub inWords : wellFormed d ≡ true → wellNamed d kind named ≡ true → Fitting d kind named rest
 
 -- The words that a rewriting may change: rows in use, steps standing and conceded; the named rows; the new rows behind those in use; its entry.
 pub data Changes (d named : List ℕ) (added p : ℕ) : Type 0 where

@@ -13,7 +13,7 @@ use Rattle.rules.specs.declared.Found.{Found}
 use Rattle.rules.specs.declared.Searched.{Searched}
 use Rattle.rules.specs.Desk.{variables, decided, decisions, deskWeighs, keeps}
 use Rattle.rules.specs.Walk.{undecided, atStart, priceOf, triedFirst, searched}
-use Rattle.walk_laws.specs.Scan.{leaves, met}
+use Rattle.walk_laws.specs.Leaves.{leaves, met}
 use Rattle.walk_laws.specs.Order.{Earlier}
 
 -- "the first, true before false": at the lowest variable where two readings differ, the one before has it true

@@ -10,7 +10,7 @@ use Rattle.rules.specs.declared.RowRead.{RowRead}
 use Rattle.rules.specs.declared.Refusal.the-variants.{BadText}
 use Rattle.rules.specs.declared.Judged.the-variants.{Fine, Refused}
 use Rattle.rules.specs.Table.{rowWordsOf}
-use Rattle.rules.specs.Text.{firstRowLine, rowLines}
+use Rattle.rules.specs.Reader.{firstRowLine, rowLines}
 use Rattle.rules.specs.Reader.{rowAt, RowsRead, rows, brokenAt, inFront, restWhy}
 use Rattle.text_laws.proofs.Branches.{rows-broken, rowsLeft, left-one, left-none, left-front}
 use Rattle.reader.specs.declared.RowsEnd.{RowsEnd}

@@ -11,7 +11,7 @@ use Rattle.rules.specs.declared.Judged.the-variants.{Fine, Refused}
 use Rattle.rules.specs.declared.HeadRead.{HeadRead}
 use Rattle.rules.specs.declared.TextRead.{TextRead}
 use Rattle.rules.specs.Table.{rowWords}
-use Rattle.rules.specs.Text.{firstRowLine}
+use Rattle.rules.specs.Reader.{firstRowLine}
 use Rattle.rules.specs.Reader.{headAt, rowsAt, wordsOf, headWhy, textRead, readTable}
 use Rattle.text_laws.specs.Ends.{unbroken}
 use Rattle.text_laws.proofs.Matched.{matched}

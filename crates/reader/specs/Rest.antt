@@ -6,7 +6,7 @@ use lib.Seq.{sets}
 use Rattle.rules.specs.declared.HeadRead.{HeadRead}
 use Rattle.rules.specs.declared.TextRead.{TextRead}
 use Rattle.rules.specs.Refusals.{unlessRefused}
-use Rattle.rules.specs.Text.{firstRowLine}
+use Rattle.rules.specs.Reader.{firstRowLine}
 use Rattle.rules.specs.Reader.{rowsAt, wordsOf, headWhy, textReadAs}
 
 unfoldable pub readBehind : List ℕ → ℕ → ℕ → ℕ → ℕ → ℕ → TextRead

@@ -4,8 +4,8 @@ ghost use mathlib.Core.Bool.{true};
 ghost use Prim.Native.Nat.{_+_, _*_, _^_, _≤_, _<_};
 ghost use lib.ListN.{length};
 ghost use lib.Seq.{sets};
-ghost use Rattle.rules.specs.Table.{rowWords, mostRows, rowWordsOf};
-ghost use Rattle.rules.specs.Text.{firstRowLine};
+ghost use Rattle.rules.specs.Table.{rowWords, mostRows};
+ghost use Rattle.rules.specs.Reader.{firstRowLine};
 ghost use Rattle.rules.specs.Reader.{litsLine, rowAt, rowsAt, restWhy, wordsOf};
 ghost use Rattle.text_laws.specs.Ends.{unbroken};
 ghost use Rattle.reader.specs.Ends.{endOf};
@@ -52,7 +52,7 @@ fn row_at(s: &[u8], at: usize, line: u64) -> RowRead
         let second = line + 1;
         return RowRead::Broken(second);
     };
-    let row = Row { lits, weight };
+    let row = Row::new(lits, weight);
     RowRead::Lines { row, next }
 }
 

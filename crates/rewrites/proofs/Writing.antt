@@ -1,23 +1,22 @@
 -- What an accepted rewriting has shown, in the words of the functions that write it: the named rows can lose w, the new rows have room,
 -- what is conceded is owed by the kind, and an entry is left.
-use Prim.Native.Nat.{ℕ, suc, _+_, _-_, _*_, _^_, _≤_, _<_}
-use mathlib.Core.Path.{_≡_, refl, sym, ap, _∙_, subst}
-use mathlib.Core.Logic.{⊎-elim, inl}
-use mathlib.Core.List.{List, [], _∷_, _++_}
-use mathlib.Core.Bool.{Bool, true, false, cond, _&&_}
+use Prim.Native.Nat.{ℕ, suc, _+_, _-_, _*_, _≤_, _<_}
+use mathlib.Core.Path.{_≡_, sym, _∙_, ap}
+use mathlib.Core.Logic.{inl}
+use mathlib.Core.List.{List}
+use mathlib.Core.Bool.{false, cond, _&&_}
 use native.Mathlib.Omega.{arith}
 use native.Mathlib.Nat.{mul-le-mul-left, mul-one, le-trans, le-of-eq}
 use lib.ListN.{length, getD, set, length-set}
 use lib.Seq.{getD-set-other}
 use lib.Dec.{eqb}
 use borrow.Author.Tests.{ne-eqb}
-use Rattle.masks.specs.Sums.{sum, smallest}
-use Rattle.masks.proofs.Sums.{le-sum, smallest-le}
+use Rattle.masks.proofs.Sums.{le-sum}
 use Rattle.masks.proofs.Choice.{cond-elim}
-use Rattle.literals.specs.declared.Lits.{Lits}
-use Rattle.rules.specs.Table.{rowWords, mostWeight}
-use Rattle.rules.specs.Desk.{headWords, variables, inUse, capacity, standing, conceded, mostSteps, entryWords, rowPlace, deskWords, rowOn, weightOn}
-use Rattle.rules.specs.Rewrite.{remnantOf, gives, stored, empties, given, lightest, reweighed, laid, fewerAdded, concedes, rewritingEntry, rewriteStep}
+use Rattle.rules.specs.Table.{mostWeight}
+use Rattle.rules.specs.Desk.{headWords, variables, inUse, conceded, rowPlace, deskWords, rowOn, weightOn}
+use Rattle.rules.specs.Rewrite.{given, lightest, laid, rewritingEntry, rewriteStep}
+use Rattle.rules.specs.Steps.{remnantOf, stored, empties, reweighed, concedes}
 use Rattle.rules.specs.Decide.{entered}
 use Rattle.desk_laws.proofs.Formed.{rows-inside}
 use Rattle.desk_laws.proofs.Stores.{length-reweighed, reweighed-head, length-laid, laid-out}
@@ -25,11 +24,11 @@ use Rattle.desk_laws.proofs.Verdicts.{Rewritten}
 use Rattle.step_laws.proofs.ByKind.{Yields, yields}
 use Rattle.step_laws.proofs.Accepted.{plan}
 use Rattle.words.specs.Room.{EntryLeft}
-use Rattle.named.specs.Reweigh.{Reweighable}
-use Rattle.named.proofs.Pairs.{concedes-once}
-use Rattle.fitting.specs.Rows.{OnDesk, WellNamed, addedRows}
-use Rattle.laying.specs.Room.{Behind, Fitting}
-use Rattle.fitting.proofs.Counts.{well-named, two-named}
+use Rattle.named.specs.Reweigh.{Reweighable, namedReweighed}
+use Rattle.kinds.proofs.Conceding.{concedes-once}
+use Rattle.remnants.specs.Rows.{OnDesk, addedRows}
+use Rattle.laying.specs.Room.{Fitting}
+use Rattle.remnants.proofs.Counts.{well-named, two-named}
 use Rattle.fitting.proofs.Namings.{Names, on-desk, named-sound, added-stored}
 use Rattle.laying.proofs.Laying.{remnant-reweighed, lies-still}
 
@@ -52,6 +51,9 @@ module _ (d : List ℕ) (kind : ℕ) (named : List ℕ) (ok : Rewritten d kind n
 
   abbrev pub lowered : List ℕ
   lowered = reweighed (λ x. x - w) row d (length named)
+
+  pub lowered-same : {v : ℕ} {e : List ℕ} → v ≡ w → e ≡ namedReweighed d named v false → e ≡ lowered
+  lowered-same q here = here ∙ ap (λ (u : ℕ). namedReweighed d named u false) q
 
   pub named-well : Names d kind named
   named-well =
@@ -126,9 +128,9 @@ module _ (d : List ℕ) (kind : ℕ) (named : List ℕ) (ok : Rewritten d kind n
   laidOut = laid lowered (inUse d) w (stored (given d kind named))
 
   -- what is laid on rows that lost w is what document 01 gives
-  pub laid-same : (e : List ℕ) (v : ℕ) → e ≡ lowered → v ≡ w → laid e (inUse d) v (stored (gives kind (length named) (remnantOf e named))) ≡ laidOut
+  pub laid-same : {v : ℕ} {e x : List ℕ} → v ≡ w → e ≡ lowered → x ≡ laid e (inUse d) v (stored (given e kind named)) → x ≡ laidOut
   unfolding given
-  laid-same e v p q = rw (p, q, same-remnants)
+  laid-same q p here = here ∙ rw (p, q, same-remnants)
 
   pub length-out : length laidOut ≡ length d
   length-out = length-laid lowered (inUse d) w (stored (given d kind named)) ∙ length-lowered
@@ -152,7 +154,8 @@ module _ (d : List ℕ) (kind : ℕ) (named : List ℕ) (ok : Rewritten d kind n
       }
 
   -- the whole step, from its parts
-  pub step-whole : (rows owed : ℕ) → rows ≡ addedRows d kind named → owed ≡ cond (eqb kind 1 && eqb (addedRows d kind named) 0) 1 (concedes kind)
-      → entered (set (set laidOut 1 (inUse d + rows)) 4 (conceded d + w * owed)) (rewritingEntry kind w named (inUse d)) ≡ rewriteStep d kind named
+  pub step-whole : {v rows owed : ℕ} {e entry x : List ℕ} → v ≡ w → rows ≡ addedRows d kind named
+      → owed ≡ cond (eqb kind 1 && eqb (addedRows d kind named) 0) 1 (concedes kind) → e ≡ laidOut → entry ≡ rewritingEntry kind v named (inUse d)
+      → x ≡ entered (set (set e 1 (inUse d + rows)) 4 (conceded d + v * owed)) entry → x ≡ rewriteStep d kind named
   unfolding rewriteStep
-  step-whole rows owed a b = rw (a ∙ added-is, b ∙ sym owed-is)
+  step-whole q a b p n here = here ∙ rw (n, q, p, a ∙ added-is, b ∙ sym owed-is)

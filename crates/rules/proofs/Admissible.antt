@@ -1,25 +1,21 @@
 -- What an admissible table is, as facts on its rows: none of 1, 2, the rows' 5 and 6, and 7 is due.
-use Prim.Native.Nat.{ℕ, zero, suc, _+_, _*_, _/_, _%_, _<_, _≤_}
-use mathlib.Core.Path.{_≡_, refl, sym, ap, _∙_}
-use mathlib.Core.Logic.{_⊎_, inl, inr, ⊎-elim}
-use mathlib.Core.Bool.{Bool, true, false, not, _&&_, _||_}
+use Prim.Native.Nat.{ℕ, zero, suc, _*_, _%_, _<_, _≤_}
+use mathlib.Core.Path.{_≡_}
+use mathlib.Core.Logic.{⊎-elim}
+use mathlib.Core.Bool.{true, false, not, _&&_}
 use mathlib.Core.List.{List}
 use native.Mathlib.Omega.{arith}
-use borrow.Author.Tests.{ltb-false, eqb-true, eqb-false, not-false}
+use borrow.Author.Tests.{ltb-false, eqb-true, not-false}
 use lib.Dec.{ltb, eqb}
 use lib.Bits.{bitAnd}
 use lib.ListN.{length}
 use Rattle.masks.specs.Masks.{none, below}
 use Rattle.masks.specs.Sums.{sum}
 use Rattle.masks.proofs.Choice.{or-none, and-left, and-right, lt-or-le}
-use Rattle.masks.proofs.Bits.{below-lt}
 use Rattle.literals.specs.Literal.{mostVariables}
 use Rattle.rules.specs.declared.Row.{Row}
-use Rattle.rules.specs.declared.Refusal.{Refusal}
 use Rattle.rules.specs.declared.Refusal.the-variants.{TooManyVariables, BadTable, BadLiterals, BadWeight, SumTooLarge}
-use Rattle.rules.specs.declared.Judged.{Judged}
-use Rattle.rules.specs.declared.Judged.the-variants.{Fine, Refused}
-use Rattle.rules.specs.Refusals.{refuse, inOrder}
+use Rattle.rules.specs.declared.Judged.the-variants.{Fine}
 use Rattle.rules.specs.Table.{rowWords, mostRows, mostWeight, rowOf, rowCount, badTable, badLits, badWeight, rowWhy, rowsWhy, sumTooLarge, tableWhy}
 use Rattle.rules.proofs.Judging.{refuse-fine, order-fine}
 

@@ -18,9 +18,12 @@ use Rattle.rules.specs.Reader.{stands, isDigit, digitRun, valueOf, numbe
 use Rattle.rules.specs.Reader.{rowsAt, headAt, readWhy, readWords, readStep, textRead}
 use Rattle.rules.specs.Table.{rowWordsOf, rowIn, rowOf, rowCount, holds, givenUp, weighs, badTable, badLits, badWeight, rowWhy, rowsWhy}
 use Rattle.rules.specs.Table.{sumTooLarge, tableWhy, weighWhy, weighed}
-use Rattle.rules.specs.Rewrite.{fewest, most, fewerAdded, concedes, countFits, distinct, wellNamed, remnantOf, shows, lit, links, compensating}
-use Rattle.rules.specs.Rewrite.{clash, apartFrom, forked, merges, shifts, chains, forks, fits, gives, stored, empties, given, wellFitted}
-use Rattle.rules.specs.Rewrite.{rewriteWhy, lightest, reweighed, laid, rewritingEntry, rewriteStep}
+use Rattle.rules.specs.Rewrite.{shows, lit, links, compensating}
+use Rattle.rules.specs.Steps.{fewest, most, fewerAdded, concedes, countFits, distinct, wellNamed, remnantOf}
+use Rattle.rules.specs.Rewrite.{clash, apartFrom, forked, merges, shifts, chains, forks, fits, gives, given, wellFitted}
+use Rattle.rules.specs.Steps.{stored, empties}
+use Rattle.rules.specs.Rewrite.{rewriteWhy, lightest, laid, rewritingEntry, rewriteStep}
+use Rattle.rules.specs.Steps.{reweighed}
 use Rattle.rules.specs.TakeBack.{lastPlace, lastKind, lastVariable, lastWeight, lastCount, lastNamed, lastFirst, mergedEmpty, lastConceded}
 use Rattle.rules.specs.TakeBack.{withdrawn, undoDecision, undoRewriting, takeBackStep, badDecision, badRewriting, badLast, takeBackWhy}
 use Rattle.rules.specs.Text.{bytes, digits, numberText, line, behind, litsText, rowText, rowsText, tableText, writeWhy, writeStep, written}

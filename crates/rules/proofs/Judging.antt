@@ -3,12 +3,15 @@ use Prim.Native.Nat.{ℕ}
 use mathlib.Core.Path.{_≡_, refl}
 use mathlib.Core.Bool.{Bool, true, false}
 use mathlib.Core.List.{List}
-use native.Mathlib.Omega.{arith}
 use Rattle.masks.proofs.Choice.{impossible}
 use Rattle.rules.specs.declared.Refusal.{Refusal}
 use Rattle.rules.specs.declared.Judged.{Judged}
 use Rattle.rules.specs.declared.Judged.the-variants.{Fine, Refused}
-use Rattle.rules.specs.Refusals.{refuse, inOrder, isFine, unlessRefused}
+use Rattle.rules.specs.Refusals.{refuse, inOrder, unlessRefused}
+
+abbrev pub isFine : Judged → Bool
+isFine Fine = true
+isFine (Refused r) = false
 
 pub never-fine : (r : Refusal) → Refused r ≡ Fine → ⊥
 never-fine r e = impossible (cc)

@@ -1,21 +1,20 @@
 -- An error that an old cleaner would make, as a definition of what is wrong, and what it comes to on P4.
 -- The other errors that document 01 lists are tried as edits of the definitions, in must-fail/.
-use Prim.Native.Nat.{ℕ, zero, suc, _<_}
+use Prim.Native.Nat.{ℕ, zero, suc}
 use mathlib.Core.Path.{_≡_, refl}
 use mathlib.Core.List.{List, [], _∷_, _++_}
-use mathlib.Core.Bool.{Bool, true, cond, not, _&&_}
+use mathlib.Core.Bool.{cond, not, _&&_}
 use lib.Bits.{bitOr}
-use lib.Dec.{lit<}
-use Rattle.masks.specs.Masks.{bit, has, count, without, none, below, single}
-use Rattle.masks.specs.Sums.{sum, every}
+use Rattle.masks.specs.Masks.{bit, count, without, none, single}
+use Rattle.masks.specs.Sums.{sum}
 use Rattle.literals.specs.declared.Lits.{Lits}
-use Rattle.literals.specs.Literal.{size, isPositive, isLiteral, bitOf, litsOf}
+use Rattle.literals.specs.Literal.{size, isPositive, bitOf, litsOf}
 use Rattle.literals.specs.Lits.{noLits, together, variablesOf, isEmpty, isOne}
 use Rattle.rules.specs.declared.Part.{Part}
 use Rattle.rules.specs.Table.{rowIn, rowCount, holds, givenUp, rowWordsOf}
-use Rattle.rules.specs.Desk.{inUse, rowPlace, deskWords, rowOn, loadStep, decisions, satisfied, remnant, deskWeighs, keeps}
+use Rattle.rules.specs.Desk.{inUse, rowPlace, deskWords, rowOn, loadStep, decisions, satisfied, remnant, deskWeighs}
 use Rattle.rules.specs.Bound.{weightWhere, lostBeyond, lost}
-use Rattle.rules.specs.Examples.{x, not-x, all, row, lent, desk}
+use Rattle.rules.specs.Examples.{x, not-x, row, desk}
 
 -- the remnant of the first unsatisfied row, of those below n, that holds one literal
 pub firstUnit : List ℕ → Part → ℕ → Lits

@@ -1,6 +1,6 @@
 -- Document 01, "The bound and the walk": lost, foreseen and the bound, under the decisions of a partial reading.
 use Prim.Native.Nat.{ℕ, _+_, min}
-use mathlib.Core.List.{List}
+use mathlib.Core.List.{List, [], _∷_}
 use mathlib.Core.Bool.{Bool, cond, not, _&&_}
 use Rattle.masks.specs.Masks.{has, single}
 use Rattle.masks.specs.Sums.{sum}
@@ -12,7 +12,7 @@ use Rattle.rules.specs.declared.Bounded.{Bounded}
 use Rattle.rules.specs.declared.Refusal.the-variants.{BadDesk}
 use Rattle.rules.specs.declared.Judged.{Judged}
 use Rattle.rules.specs.declared.Judged.the-variants.{Fine, Refused}
-use Rattle.rules.specs.Refusals.{refuse}
+use Rattle.rules.specs.Refusals.{_when_, firstDue}
 use Rattle.rules.specs.Desk.{variables, inUse, conceded, rowOn, wellFormed, decisions, satisfied, remnant}
 
 -- a row's weight where the row is unsatisfied and its remnant passes a test
@@ -46,7 +46,7 @@ bound d p = lost d p + foreseen d p
 
 -- Bound and search: 10.
 unfoldable pub deskWhy : List ℕ → Judged
-deskWhy d = refuse (not (wellFormed d)) BadDesk Fine
+deskWhy d = firstDue (BadDesk when not (wellFormed d) ∷ [])
 
 abbrev pub boundedAs : Judged → ℕ → Bounded
 boundedAs Fine b = Bounded.Bound b

@@ -1,6 +1,6 @@
 -- Document 01, "The steps": deciding a literal.
 use Prim.Native.Nat.{ℕ, _+_, _-_}
-use mathlib.Core.List.{List, [], _∷_, _++_}
+use mathlib.Core.List.{List, [], _∷_}
 use mathlib.Core.Bool.{Bool, cond, not, _||_}
 use lib.ListN.{set, replicate}
 use lib.Seq.{sets}
@@ -11,8 +11,7 @@ use Rattle.masks.specs.Masks.{has}
 use Rattle.literals.specs.Literal.{size, isPositive, isLiteral, bitOf}
 use Rattle.rules.specs.declared.Refusal.the-variants.{BadDesk, TooManySteps, BadLiteral}
 use Rattle.rules.specs.declared.Judged.{Judged}
-use Rattle.rules.specs.declared.Judged.the-variants.{Fine}
-use Rattle.rules.specs.Refusals.{refuse, unlessRefused}
+use Rattle.rules.specs.Refusals.{_when_, firstDue, unlessRefused}
 use Rattle.rules.specs.Desk.{variables, standing, decided, truths, mostSteps, entryPlace, wellFormed}
 
 -- a step is entered behind those that stand
@@ -26,9 +25,7 @@ badLiteral d l = not (isLiteral l) || (ltb (variables d) (size l) || has (decide
 -- Decide: 10, 11, 12.
 unfoldable pub decideWhy : List ℕ → ℤ → Judged
 decideWhy d l =
-    refuse (not (wellFormed d)) BadDesk
-    (refuse (leb mostSteps (standing d)) TooManySteps
-    (refuse (badLiteral d l) BadLiteral Fine))
+    firstDue (BadDesk when not (wellFormed d) ∷ TooManySteps when leb mostSteps (standing d) ∷ BadLiteral when badLiteral d l ∷ [])
 
 -- "A decision's entry: 0, variable, 1 for true or 0 for false, thirteen zeros."
 unfoldable pub decisionEntry : ℤ → List ℕ
@@ -42,6 +39,4 @@ decideStep d l =
 
 -- the words after it, refused or not
 unfoldable pub decideDesk : List ℕ → ℤ → List ℕ
-decideDesk d l =
-    let step = decideStep d l in
-    unlessRefused (decideWhy d l) step d
+decideDesk d l = unlessRefused (decideWhy d l) (decideStep d l) d

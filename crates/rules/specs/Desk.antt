@@ -2,7 +2,7 @@
 use Prim.Native.Nat.{ℕ, _+_, _-_, _*_}
 use mathlib.Core.List.{List, [], _∷_, _++_}
 use mathlib.Core.Bool.{Bool, not, _&&_, _||_}
-use lib.ListN.{length, getD, set, drop, replicate}
+use lib.ListN.{length, getD, drop, replicate}
 use lib.Seq.{sets}
 use lib.Bits.{bitAnd}
 use lib.Dec.{eqb, leb, ltb}
@@ -11,12 +11,10 @@ use Rattle.masks.specs.Sums.{sum, every}
 use Rattle.literals.specs.declared.Lits.{Lits}
 use Rattle.literals.specs.Literal.{mostVariables}
 use Rattle.rules.specs.declared.Row.{Row}
-use Rattle.rules.specs.declared.Desk.{Desk}
 use Rattle.rules.specs.declared.Part.{Part}
 use Rattle.rules.specs.declared.Refusal.the-variants.{TooManyVariables, BadTable, BadCapacity, NoRoom, SumTooLarge}
 use Rattle.rules.specs.declared.Judged.{Judged}
-use Rattle.rules.specs.declared.Judged.the-variants.{Fine}
-use Rattle.rules.specs.Refusals.{refuse, inOrder, unlessRefused}
+use Rattle.rules.specs.Refusals.{_when_, asIn, firstDue, unlessRefused}
 use Rattle.rules.specs.Table.{rowWords, mostRows, mostWeight, rowIn, rowWordsOf, withWeight, rowCount, givenUp, badTable, badLits, rowsWhy, sumTooLarge}
 
 abbrev pub headWords : ℕ
@@ -55,19 +53,6 @@ truths d = getD d 6 0
 
 abbrev pub loaded : List ℕ → ℕ
 loaded d = getD d 7 0
-
-unfoldable pub headOf : List ℕ → Desk
-headOf d =
-    record {
-      variables = variables d;
-      «in_use» = inUse d;
-      capacity = capacity d;
-      standing = standing d;
-      conceded = conceded d;
-      decided = decided d;
-      truths = truths d;
-      loaded = loaded d;
-    }
 
 -- "next 3C: rows, as in the table"; "last 4,096: 256 step entries of 16 words"
 unfoldable pub rowPlace : ℕ → ℕ
@@ -122,26 +107,18 @@ wellFormed d = reaches d && (inLimits d && (rowsSound d && (weightFits d && mask
 -- Load: 1, 2, 3, 4, rows in order with 5 before 6, then 7.
 unfoldable pub loadWhy : ℕ → List ℕ → ℕ → List ℕ → Judged
 loadWhy n table c d =
-    refuse (ltb mostVariables n) TooManyVariables
-    (refuse (badTable table) BadTable
-    (refuse (ltb c (rowCount table) || ltb mostCapacity c) BadCapacity
-    (refuse (ltb (length d) (deskWords c)) NoRoom
-    (inOrder (rowsWhy n table (rowCount table))
-    (refuse (sumTooLarge table) SumTooLarge Fine)))))
+    firstDue (TooManyVariables when ltb mostVariables n ∷ BadTable when badTable table ∷ BadCapacity when (ltb c (rowCount table) || ltb mostCapacity c)
+    ∷ NoRoom when ltb (length d) (deskWords c) ∷ asIn (rowsWhy n table (rowCount table)) ∷ SumTooLarge when sumTooLarge table ∷ [])
 
 -- "Load writes the whole desk; words not in use hold 0", and "words past it are never touched"
 unfoldable pub loadStep : ℕ → List ℕ → ℕ → List ℕ → List ℕ
 loadStep n table c d =
     (n ∷ rowCount table ∷ c ∷ 0 ∷ 0 ∷ 0 ∷ 0 ∷ rowCount table ∷ [])
-    ++ (table
-    ++ (replicate (rowWords * c - length table + mostSteps * entryWords) 0
-    ++ drop (deskWords c) d))
+    ++ (table ++ (replicate (rowWords * c - length table + mostSteps * entryWords) 0 ++ drop (deskWords c) d))
 
 -- the words after a load, refused or not
 unfoldable pub loadDesk : ℕ → List ℕ → ℕ → List ℕ → List ℕ
-loadDesk n table c d =
-    let step = loadStep n table c d in
-    unlessRefused (loadWhy n table c d) step d
+loadDesk n table c d = unlessRefused (loadWhy n table c d) (loadStep n table c d) d
 
 -- The decisions as a partial reading: which variables have a value, and which of those are true.
 unfoldable pub decisions : List ℕ → Part

@@ -1,18 +1,16 @@
 -- Document 01, "Examples, marked P where proved": one table. A row has the example's name, what the definitions give, and what document 01
 -- says, both as numbers. Further examples, with names that do not start with P, are in Further.antt.
-use Prim.Native.Nat.{ℕ, zero, suc, _+_, _^_, _-_}
+use Prim.Native.Nat.{ℕ, zero, suc, _+_, _-_}
 use Prim.Native.String.{String}
 use mathlib.Core.List.{List, [], _∷_, _++_}
 use mathlib.Core.Bool.{Bool, true, false, _&&_}
-use lib.ListN.{length, replicate}
+use lib.ListN.{replicate}
 use lib.Dec.{eqb}
-use lib.IntN.{ℤ, pos, negsuc}
+use lib.IntN.{pos, negsuc}
 use Rattle.literals.specs.declared.Lits.{Lits}
 use Rattle.literals.specs.Lits.{noLits, together}
 use Rattle.literals.specs.Literal.{litsOf}
-use Rattle.rules.specs.declared.Row.{Row}
 use Rattle.rules.specs.declared.Bounded.{Bounded}
-use Rattle.rules.specs.declared.Refusal.{Refusal}
 use Rattle.rules.specs.declared.Judged.{Judged}
 use Rattle.rules.specs.declared.Judged.the-variants.{Fine, Refused}
 use Rattle.rules.specs.Refusals.{numberOf, placeOf}
@@ -21,7 +19,7 @@ use Rattle.rules.specs.Desk.{inUse, conceded, rowOn, deskWords, loadWhy,
 use Rattle.rules.specs.Bound.{bounded}
 use Rattle.rules.specs.Text.{bytes}
 use Rattle.rules.specs.Program.{answer}
-use Rattle.rules.specs.Calls.{Call, decide, rewrite, takeBack, callWhy, afterCall, afterCalls}
+use Rattle.rules.specs.Calls.{decide, rewrite, takeBack, callWhy, afterCall, afterCalls}
 
 pub record Example : Type 0 where
   pub name : String

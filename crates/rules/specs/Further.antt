@@ -12,7 +12,7 @@ use Rattle.rules.specs.Desk.{inLimits, loadWhy, loadDesk}
 use Rattle.rules.specs.Text.{bytes}
 use Rattle.rules.specs.Program.{answer}
 use Rattle.rules.specs.Figures.{figures}
-use Rattle.rules.specs.Calls.{Call, decide, rewrite, takeBack, callWhy, afterCall, afterCalls}
+use Rattle.rules.specs.Calls.{Call, decide, rewrite, takeBack, load, callWhy, afterCall, afterCalls}
 use Rattle.rules.specs.Examples.{Example, example, x, not-x, row, desk, refusal, account, p5, p7, p8}
 
 -- n rows that no reading satisfies, of weight 1
@@ -191,9 +191,15 @@ further =
     ∷ example "layout: step 256, a decision: the head, its entry, and two words past the desk"
     (but 8 4088 (afterCall (stepsStand 255) (decide (pos 1))))
     ((1 ∷ 0 ∷ 0 ∷ 256 ∷ 0 ∷ 1 ∷ 1 ∷ 0 ∷ []) ++ (0 ∷ (0 ∷ 1 ∷ 1 ∷ (replicate 13 0 ++ (9 ∷ 9 ∷ [])))))
+    ∷ example "layout: a decision behind P5's chain: the head, in which conceded stays"
+    (words (afterCalls (desk 2 p5 4) (rewrite 3 (0 ∷ 2 ∷ 1 ∷ []) ∷ decide (pos 2) ∷ [])) 0 8)
+    (2 ∷ 4 ∷ 4 ∷ 2 ∷ 2 ∷ 2 ∷ 2 ∷ 3 ∷ [])
     ∷ example "layout: two decisions: the head and both entries"
     (words (afterCalls (desk 64 [] 0) (decide (negsuc 1) ∷ decide (pos 64) ∷ [])) 0 40)
     ((64 ∷ 0 ∷ 0 ∷ 2 ∷ 0 ∷ 9223372036854775810 ∷ 9223372036854775808 ∷ 0 ∷ []) ++ (0 ∷ 2 ∷ 0 ∷ (replicate 13 0 ++ (0 ∷ 64 ∷ 1 ∷ replicate 13 0))))
+    ∷ example "call: two refused loads behind a decision leave the desk as it is"
+    (words (afterCalls (desk 2 p8 2) (decide (pos 1) ∷ load 65 [] 0 ∷ load 2 p8 1 ∷ [])) 0 8)
+    (2 ∷ 2 ∷ 2 ∷ 1 ∷ 0 ∷ 1 ∷ 1 ∷ 2 ∷ [])
     ∷ example "limit: literals 0, 65 and -65, and 64 and -64, of which none is refused"
     (answers (desk 64 [] 0) (decide (pos 0) ∷ decide (pos 65) ∷ decide (negsuc 64) ∷ decide (pos 64) ∷ decide (negsuc 63) ∷ []))
     (12 ∷ 0 ∷ 12 ∷ 0 ∷ 12 ∷ 0 ∷ [])

@@ -2,6 +2,7 @@ pub mod Refusals
 pub mod Table
 pub mod Desk
 pub mod Decide
+pub mod Steps
 pub mod Rewrite
 pub mod TakeBack
 pub mod Bound

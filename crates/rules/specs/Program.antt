@@ -1,11 +1,10 @@
 -- Document 01, "The text" and "Refusal numbers": what the program answers, from input bytes to output bytes.
-use Prim.Native.Nat.{ℕ, _+_, _-_, _*_, _^_}
-use mathlib.Core.List.{List, [], _++_}
-use mathlib.Core.Bool.{Bool, true, cond}
+use Prim.Native.Nat.{ℕ, _-_, _*_, _^_}
+use mathlib.Core.List.{List, [], _∷_, _++_}
+use mathlib.Core.Bool.{cond}
 use lib.ListN.{length, drop, replicate}
 use lib.Dec.{ltb}
 use Rattle.masks.specs.Masks.{without}
-use Rattle.literals.specs.declared.Lits.{Lits}
 use Rattle.rules.specs.declared.Refusal.{Refusal}
 use Rattle.rules.specs.declared.Refusal.the-variants.{NoRoom, InputTooLong}
 use Rattle.rules.specs.declared.Judged.{Judged}
@@ -15,7 +14,7 @@ use Rattle.rules.specs.declared.Best.{Best}
 use Rattle.rules.specs.declared.Found.{Found}
 use Rattle.rules.specs.declared.TextRead.{TextRead}
 use Rattle.rules.specs.declared.Written.{Written}
-use Rattle.rules.specs.Refusals.{numberOf, placeOf, refuse, unlessRefused}
+use Rattle.rules.specs.Refusals.{numberOf, placeOf, _when_, firstDue, unlessRefused}
 use Rattle.rules.specs.Table.{rowWords, mostRows}
 use Rattle.rules.specs.Desk.{deskWords, loadWhy, loadStep}
 use Rattle.rules.specs.Walk.{walkIn, foundBy}
@@ -72,7 +71,7 @@ answer input = cond (ltb mostInput (length input)) (refusalText InputTooLong) (r
 
 -- The answer into lent bytes. 4: the lent output is too short.
 unfoldable pub answerWhy : List ℕ → List ℕ → Judged
-answerWhy input output = refuse (ltb (length output) (length (answer input))) NoRoom Fine
+answerWhy input output = firstDue (NoRoom when ltb (length output) (length (answer input)) ∷ [])
 
 -- "An accepted call writes nothing past its output's end."
 unfoldable pub answerStep : List ℕ → List ℕ → List ℕ
@@ -85,6 +84,4 @@ answered input output = writtenAs (answerWhy input output) (length (answer input
 
 -- the lent bytes afterwards
 unfoldable pub answerOut : List ℕ → List ℕ → List ℕ
-answerOut input output =
-    let step = answerStep input output in
-    unlessRefused (answerWhy input output) step output
+answerOut input output = unlessRefused (answerWhy input output) (answerStep input output) output

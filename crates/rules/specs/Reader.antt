@@ -16,14 +16,19 @@ use Rattle.rules.specs.declared.Listed.{Listed}
 use Rattle.rules.specs.declared.RowRead.{RowRead}
 use Rattle.rules.specs.declared.HeadRead.{HeadRead}
 use Rattle.rules.specs.declared.TextRead.{TextRead}
-use Rattle.rules.specs.declared.Refusal.the-variants.{TooManyVariables, BadTable, NoRoom, BadBudget, BadText}
+use Rattle.rules.specs.declared.Refusal.the-variants.{BadText}
 use Rattle.rules.specs.declared.Judged.{Judged}
 use Rattle.rules.specs.declared.Judged.the-variants.{Fine, Refused}
-use Rattle.rules.specs.Refusals.{refuse}
-use Rattle.rules.specs.Calls.{unlessRefused}
-use Rattle.rules.specs.Table.{rowWords, mostRows, rowWordsOf}
-use Rattle.rules.specs.Walk.{mostBudget}
-use Rattle.rules.specs.Text.{bytes, lineFeed, space, minus, digitZero, mostDigits, firstRowLine, rowLines}
+use Rattle.rules.specs.Refusals.{_when_, asIn, firstDue, unlessRefused}
+use Rattle.rules.specs.Table.{newRow, rowWordsOf}
+use Rattle.rules.specs.Text.{bytes, lineFeed, space, minus, digitZero, mostDigits, figuresOrder}
+
+-- the line on which the rows begin, counted from 1, and the lines of a row
+abbrev pub firstRowLine : ℕ
+firstRowLine = 4
+
+abbrev pub rowLines : ℕ
+rowLines = 2
 
 -- these bytes stand at the place
 unfoldable pub stands : List ℕ → ℕ → List ℕ → Bool
@@ -99,7 +104,7 @@ onNumber (Parsed.Number value next) broken go = go value next
 onNumber Parsed.Broken broken go = broken
 
 abbrev pub rowBy : ℕ → ℕ → Listed → RowRead
-rowBy w line (Listed.Literals l next) = RowRead.Lines (record { lits = l; weight = w }) next
+rowBy w line (Listed.Literals l next) = RowRead.Lines (newRow l w) next
 rowBy w line Listed.Broken = RowRead.Broken line
 
 -- a row's two lines, of which the first has this number
@@ -132,17 +137,13 @@ headAt s =
 
 -- "the rest": the rows from their first line on; "Nothing follows the last row."
 abbrev pub restWhy : List ℕ → ℕ → RowsRead → Judged
-restWhy s m (rows words next) = refuse (not (eqb next (length s))) (BadText (firstRowLine + rowLines * m)) Fine
+restWhy s m (rows words next) = firstDue (BadText (firstRowLine + rowLines * m) when not (eqb next (length s)) ∷ [])
 restWhy s m (brokenAt line) = Refused (BadText line)
 
 -- Reader: first three lines (20), 1, 9, 2, 4, the rest (20).
 abbrev pub headWhy : List ℕ → ℕ → HeadRead → Judged
 headWhy s room (HeadRead.Lines variables budget m next) =
-    refuse (ltb mostVariables variables) TooManyVariables
-    (refuse (ltb mostBudget budget) BadBudget
-    (refuse (ltb mostRows m) BadTable
-    (refuse (ltb room (rowWords * m)) NoRoom
-    (restWhy s m (rowsAt m s next firstRowLine)))))
+    firstDue (figuresOrder room variables budget m ++ (asIn (restWhy s m (rowsAt m s next firstRowLine)) ∷ []))
 headWhy s room (HeadRead.Broken line) = Refused (BadText line)
 
 unfoldable pub readWhy : List ℕ → ℕ → Judged
@@ -176,6 +177,4 @@ textRead s room = textReadAs (readWhy s room) (headAt s)
 
 -- the lent words afterwards
 unfoldable pub readTable : List ℕ → List ℕ → List ℕ
-readTable s table =
-    let step = readStep s table in
-    unlessRefused (readWhy s (length table)) step table
+readTable s table = unlessRefused (readWhy s (length table)) (readStep s table) table

@@ -1,4 +1,5 @@
--- Document 01, "The steps": merge, shift, chain and fork.
+-- Document 01, "The steps": merge, shift, chain and fork, found by recursion: what fits, and what is given. The table in document 01's words stands in
+-- crates/step_laws/specs/StepTable.antt; that the two say the same is promised, so that what finds it here need not be believed.
 -- A rewriting names rows; f gives their remnants, f 0 the first. A literal stands here as the set of literals that holds it alone.
 use Prim.Native.Nat.{ℕ, zero, suc, _+_, _-_, _*_}
 use mathlib.Core.List.{List, [], _∷_, _++_}
@@ -9,61 +10,18 @@ use lib.Dec.{eqb, leb, ltb}
 use Rattle.masks.specs.Masks.{none, count, without}
 use Rattle.masks.specs.Sums.{every, smallest}
 use Rattle.literals.specs.declared.Lits.{Lits}
-use Rattle.literals.specs.Lits.{noLits, negatedLits, together, less, variablesOf, isEmpty, sameLits, isOne}
+use Rattle.literals.specs.Lits.{noLits, negatedLits, together, less, variablesOf, sameLits, isOne}
 use Rattle.rules.specs.declared.Refusal.the-variants.{BadDesk, TooManySteps, BadNaming, BadFit, DeskFull}
 use Rattle.rules.specs.declared.Judged.{Judged}
-use Rattle.rules.specs.declared.Judged.the-variants.{Fine}
-use Rattle.rules.specs.Refusals.{refuse, unlessRefused}
+use Rattle.rules.specs.Refusals.{_when_, firstDue, unlessRefused}
 use Rattle.rules.specs.Table.{newRow}
-use Rattle.rules.specs.Desk.{inUse, capacity, standing, conceded, mostSteps, rowOn, setRow, setWeight, wellFormed, decisions, satisfied, remnant, spent}
+use Rattle.rules.specs.Desk.{inUse, capacity, standing, conceded, mostSteps, rowOn, setRow, wellFormed, decisions, satisfied, spent}
 use Rattle.rules.specs.Decide.{entered}
-
--- the last kind of step
-abbrev pub mostKind : ℕ
-mostKind = 4
-
--- "k is 0 to 8"
-abbrev pub longest : ℕ
-longest = 8
-
--- "up to 12 row numbers"
-abbrev pub mostNamed : ℕ
-mostNamed = 12
-
--- The table by step kind, 0 to 4: fewest and most rows named, rows named less rows added, and how often it concedes w.
--- A merge whose rest is empty adds no row and concedes w; that is its own case.
-unfoldable pub fewest : ℕ → ℕ
-fewest kind = getD (0 ∷ 2 ∷ 2 ∷ 2 ∷ 4 ∷ []) kind 0
-
-unfoldable pub most : ℕ → ℕ
-most kind = getD (0 ∷ 2 ∷ 2 ∷ (2 + longest) ∷ (4 + longest) ∷ []) kind 0
-
-unfoldable pub fewerAdded : ℕ → ℕ
-fewerAdded kind = getD (0 ∷ 1 ∷ 0 ∷ 2 ∷ 2 ∷ []) kind 0
-
-unfoldable pub concedes : ℕ → ℕ
-concedes kind = getD (0 ∷ 0 ∷ 0 ∷ 1 ∷ 1 ∷ []) kind 0
+use Rattle.rules.specs.Steps.{mostNamed, wellNamed, remnantOf, stored, empties, reweighed}
 
 -- what belongs to kind 1, 2, 3 or 4
 abbrev pub byKind : {A : Type 0} → ℕ → A → A → A → A → A
 byKind kind merge shift chain fork = cond (eqb kind 1) merge (cond (eqb kind 2) shift (cond (eqb kind 3) chain fork))
-
-unfoldable pub countFits : ℕ → ℕ → Bool
-countFits kind n = leb (fewest kind) n && leb n (most kind)
-
--- no two of the first n are the same
-unfoldable pub distinct : ℕ → (ℕ → ℕ) → Bool
-distinct n row = every n (λ j. every j (λ i. not (eqb (row i) (row j))))
-
--- 13: a rewriting's kind not 1 to 4, wrong count of rows, row not in use, or a row named twice
-unfoldable pub wellNamed : List ℕ → ℕ → List ℕ → Bool
-wellNamed d kind named =
-    leb 1 kind && (leb kind mostKind && (countFits kind (length named)
-    && (every (length named) (λ i. ltb (getD named i 0) (inUse d)) && distinct (length named) (λ i. getD named i 0))))
-
--- the remnant of the i-th named row
-unfoldable pub remnantOf : List ℕ → List ℕ → ℕ → Lits
-remnantOf d named i = remnant (decisions d) (rowOn d (getD named i 0) .lits)
 
 -- "A remnant holds just the literals shown, each on a variable of its own": two literals
 unfoldable pub shows : Lits → Lits → Lits → Bool
@@ -132,15 +90,6 @@ gives kind n f =
     let bc = together (forked f (n - 4) 1) (forked f (n - 4) 2) in
     noLits ∷ (compensating f (n - 4) ++ (together a (negatedLits bc) ∷ together (negatedLits a) bc ∷ [])))
 
--- "an empty one is not stored, but adds w to conceded"
-unfoldable pub stored : List Lits → List Lits
-stored [] = []
-stored (l ∷ ls) = cond (isEmpty l) (stored ls) (l ∷ stored ls)
-
-unfoldable pub empties : List Lits → ℕ
-empties [] = 0
-empties (l ∷ ls) = cond (isEmpty l) 1 0 + empties ls
-
 unfoldable pub given : List ℕ → ℕ → List ℕ → List Lits
 given d kind named = gives kind (length named) (remnantOf d named)
 
@@ -153,22 +102,12 @@ wellFitted d kind named =
 -- Rewriting: 10, 11, 13, 14, 15.
 unfoldable pub rewriteWhy : List ℕ → ℕ → List ℕ → Judged
 rewriteWhy d kind named =
-    refuse (not (wellFormed d)) BadDesk
-    (refuse (leb mostSteps (standing d)) TooManySteps
-    (refuse (not (wellNamed d kind named)) BadNaming
-    (refuse (not (wellFitted d kind named)) BadFit
-    (refuse (ltb (capacity d) (inUse d + length (stored (given d kind named)))) DeskFull Fine))))
+    firstDue (BadDesk when not (wellFormed d) ∷ TooManySteps when leb mostSteps (standing d) ∷ BadNaming when not (wellNamed d kind named)
+    ∷ BadFit when not (wellFitted d kind named) ∷ DeskFull when ltb (capacity d) (inUse d + length (stored (given d kind named))) ∷ [])
 
 -- "w is the smallest weight among the named rows"
 unfoldable pub lightest : List ℕ → List ℕ → ℕ
 lightest d named = smallest (length named - 1) (λ i. rowOn d (getD named i 0) .weight)
-
--- the first n named rows get a new weight, made of the old one
-unfoldable pub reweighed : (ℕ → ℕ) → (ℕ → ℕ) → List ℕ → ℕ → List ℕ
-reweighed new row d zero = d
-reweighed new row d (suc n) =
-    let e = reweighed new row d n in
-    setWeight e (row n) (new (rowOn e (row n) .weight))
 
 -- rows of weight w from row i on
 unfoldable pub laid : List ℕ → ℕ → ℕ → List Lits → List ℕ
@@ -190,6 +129,4 @@ rewriteStep d kind named =
 
 -- the words after it, refused or not
 unfoldable pub rewriteDesk : List ℕ → ℕ → List ℕ → List ℕ
-rewriteDesk d kind named =
-    let step = rewriteStep d kind named in
-    unlessRefused (rewriteWhy d kind named) step d
+rewriteDesk d kind named = unlessRefused (rewriteWhy d kind named) (rewriteStep d kind named) d

@@ -4,7 +4,7 @@ use mathlib.Core.List.{List, [], _∷_}
 use mathlib.Core.Bool.{Bool, cond, not, _&&_, _||_}
 use lib.ListN.{length, getD}
 use lib.Bits.{bitAnd}
-use lib.Dec.{eqb, leb, ltb}
+use lib.Dec.{eqb, ltb}
 use Rattle.masks.specs.Masks.{none, without, below}
 use Rattle.masks.specs.Sums.{sum}
 use Rattle.literals.specs.declared.Lits.{Lits}
@@ -14,7 +14,7 @@ use Rattle.rules.specs.declared.Weighed.{Weighed}
 use Rattle.rules.specs.declared.Refusal.the-variants.{TooManyVariables, BadTable, BadLiterals, BadWeight, SumTooLarge, BadReading}
 use Rattle.rules.specs.declared.Judged.{Judged}
 use Rattle.rules.specs.declared.Judged.the-variants.{Fine, Refused}
-use Rattle.rules.specs.Refusals.{refuse, inOrder}
+use Rattle.rules.specs.Refusals.{inOrder, _when_, asIn, firstDue}
 
 abbrev pub rowWords : ℕ
 rowWords = 3
@@ -27,24 +27,21 @@ mostRows = 512
 abbrev pub mostWeight : ℕ
 mostWeight = 1_000_000_000
 
+-- a row of these literals and this weight
+abbrev pub newRow : Lits → ℕ → Row
+newRow l w = record { lits = l; weight = w }
+
 -- "Rows of three 64-bit words: mask of positive literals, mask of negative ones, weight": the row whose words begin at a place
 unfoldable pub rowIn : List ℕ → ℕ → Row
-rowIn words at =
-    record {
-      lits = record { positive = getD words at 0; negative = getD words (at + 1) 0 };
-      weight = getD words (at + 2) 0;
-    }
+rowIn words at = newRow (record { positive = getD words at 0; negative = getD words (at + 1) 0 }) (getD words (at + 2) 0)
 
 -- the words of a row
 unfoldable pub rowWordsOf : Row → List ℕ
 rowWordsOf row = row .lits .positive ∷ row .lits .negative ∷ row .weight ∷ []
 
--- a row of these literals and this weight, and a row with another weight
-abbrev pub newRow : Lits → ℕ → Row
-newRow l w = record { lits = l; weight = w }
-
+-- a row with another weight
 abbrev pub withWeight : Row → ℕ → Row
-withWeight row w = record { lits = row .lits; weight = w }
+withWeight row w = newRow (row .lits) w
 
 -- row i of a table; rows are numbered from 0
 unfoldable pub rowOf : List ℕ → ℕ → Row
@@ -79,8 +76,7 @@ badWeight w = eqb w 0 || ltb mostWeight w
 
 unfoldable pub rowWhy : ℕ → ℕ → Row → Judged
 rowWhy variables i row =
-    refuse (badLits variables (row .lits)) (BadLiterals i)
-    (refuse (badWeight (row .weight)) (BadWeight i) Fine)
+    firstDue (BadLiterals i when badLits variables (row .lits) ∷ BadWeight i when badWeight (row .weight) ∷ [])
 
 -- "rows in order with 5 before 6": the first refusal among the first k rows
 unfoldable pub rowsWhy : ℕ → List ℕ → ℕ → Judged
@@ -94,16 +90,13 @@ sumTooLarge table = ltb mostWeight (sum (rowCount table) (λ i. rowOf table i .w
 -- An admissible table for a count of variables is refused by none of 1, 2, rows, 7.
 unfoldable pub tableWhy : ℕ → List ℕ → Judged
 tableWhy variables table =
-    refuse (ltb mostVariables variables) TooManyVariables
-    (refuse (badTable table) BadTable
-    (inOrder (rowsWhy variables table (rowCount table))
-    (refuse (sumTooLarge table) SumTooLarge Fine)))
+    firstDue (TooManyVariables when ltb mostVariables variables ∷ BadTable when badTable table ∷ asIn (rowsWhy variables table (rowCount table))
+    ∷ SumTooLarge when sumTooLarge table ∷ [])
 
 -- Weight of a reading: 1, 2, rows, 7, 8.
 unfoldable pub weighWhy : ℕ → List ℕ → ℕ → Judged
 weighWhy variables table reading =
-    inOrder (tableWhy variables table)
-    (refuse (not (below reading variables)) BadReading Fine)
+    firstDue (asIn (tableWhy variables table) ∷ BadReading when not (below reading variables) ∷ [])
 
 abbrev pub weighedAs : Judged → ℕ → Weighed
 weighedAs Fine w = Weighed.Weight w

@@ -1,6 +1,6 @@
 -- Document 01, "The steps": "Taking back undoes the last standing step", and "A bad last entry".
 use Prim.Native.Nat.{ℕ, _+_, _-_, _*_}
-use mathlib.Core.List.{List}
+use mathlib.Core.List.{List, [], _∷_}
 use mathlib.Core.Bool.{Bool, cond, not, _&&_, _||_}
 use lib.ListN.{getD, set}
 use lib.Dec.{eqb, ltb}
@@ -9,11 +9,10 @@ use Rattle.masks.specs.Sums.{every}
 use Rattle.masks.specs.Words.{zeroed}
 use Rattle.rules.specs.declared.Refusal.the-variants.{BadDesk, NothingStands}
 use Rattle.rules.specs.declared.Judged.{Judged}
-use Rattle.rules.specs.declared.Judged.the-variants.{Fine}
-use Rattle.rules.specs.Refusals.{refuse, unlessRefused}
+use Rattle.rules.specs.Refusals.{_when_, firstDue, unlessRefused}
 use Rattle.rules.specs.Table.{rowWords}
 use Rattle.rules.specs.Desk.{inUse, standing, conceded, decided, truths, loaded, entryWords, rowPlace, entryPlace, wellFormed, weightFits}
-use Rattle.rules.specs.Rewrite.{mostKind, fewerAdded, concedes, countFits, distinct, reweighed, mostNamed}
+use Rattle.rules.specs.Steps.{mostKind, fewerAdded, concedes, countFits, distinct, reweighed, mostNamed}
 
 -- The last entry and its words.
 unfoldable pub lastPlace : List ℕ → ℕ
@@ -89,12 +88,8 @@ badLast d = ltb mostKind (lastKind d) || cond (eqb (lastKind d) 0) (badDecision 
 -- Taking back: 10 for the desk, 16, 10 for the entry.
 unfoldable pub takeBackWhy : List ℕ → Judged
 takeBackWhy d =
-    refuse (not (wellFormed d)) BadDesk
-    (refuse (eqb (standing d) 0) NothingStands
-    (refuse (badLast d) BadDesk Fine))
+    firstDue (BadDesk when not (wellFormed d) ∷ NothingStands when eqb (standing d) 0 ∷ BadDesk when badLast d ∷ [])
 
 -- the words after it, refused or not
 unfoldable pub takeBackDesk : List ℕ → List ℕ
-takeBackDesk d =
-    let step = takeBackStep d in
-    unlessRefused (takeBackWhy d) step d
+takeBackDesk d = unlessRefused (takeBackWhy d) (takeBackStep d) d

@@ -1,10 +1,10 @@
 -- Document 01, "The text": what is written.
-use Prim.Native.Nat.{ℕ, zero, suc, _+_, _/_, _%_}
+use Prim.Native.Nat.{ℕ, zero, suc, _+_, _*_, _/_, _%_}
 use Prim.Native.Char.{code}
 use Prim.Native.String.{String}
 use Prim.Native.String as S
 use mathlib.Core.List.{List, [], _∷_, _++_}
-use mathlib.Core.Bool.{Bool, cond}
+use mathlib.Core.Bool.{cond}
 use lib.ListN.{length, drop}
 use lib.Dec.{ltb}
 use Rattle.masks.specs.Masks.{has}
@@ -12,12 +12,12 @@ use Rattle.literals.specs.declared.Lits.{Lits}
 use Rattle.literals.specs.Literal.{mostVariables}
 use Rattle.rules.specs.declared.Row.{Row}
 use Rattle.rules.specs.declared.Written.{Written}
-use Rattle.rules.specs.declared.Refusal.the-variants.{NoRoom}
+use Rattle.rules.specs.declared.Refusal.the-variants.{TooManyVariables, BadTable, NoRoom, BadBudget}
 use Rattle.rules.specs.declared.Judged.{Judged}
 use Rattle.rules.specs.declared.Judged.the-variants.{Fine, Refused}
-use Rattle.rules.specs.Refusals.{refuse, inOrder}
-use Rattle.rules.specs.Calls.{unlessRefused}
-use Rattle.rules.specs.Table.{rowCount, rowOf, tableWhy}
+use Rattle.rules.specs.Refusals.{Rule, _when_, asIn, firstDue, unlessRefused}
+use Rattle.rules.specs.Table.{rowWords, mostRows, rowCount, rowOf, tableWhy}
+use Rattle.rules.specs.Walk.{mostBudget}
 
 -- a text as its bytes
 unfoldable pub bytes : String → List ℕ
@@ -33,22 +33,12 @@ space = 32
 abbrev pub minus : ℕ
 minus = 45
 
-abbrev pub equalSign : ℕ
-equalSign = 61
-
 abbrev pub digitZero : ℕ
 digitZero = 48
 
 -- "numbers are decimal, 1 to 10 digits"
 abbrev pub mostDigits : ℕ
 mostDigits = 10
-
--- the line on which the rows begin, counted from 1, and the lines of a row
-abbrev pub firstRowLine : ℕ
-firstRowLine = 4
-
-abbrev pub rowLines : ℕ
-rowLines = 2
 
 -- the digits of n, at most k
 unfoldable pub digits : ℕ → ℕ → List ℕ
@@ -95,8 +85,7 @@ tableText variables budget table =
 -- Writer: 1, 2, rows, 7, 4.
 unfoldable pub writeWhy : ℕ → ℕ → List ℕ → List ℕ → Judged
 writeWhy variables budget table out =
-    inOrder (tableWhy variables table)
-    (refuse (ltb (length out) (length (tableText variables budget table))) NoRoom Fine)
+    firstDue (asIn (tableWhy variables table) ∷ NoRoom when ltb (length out) (length (tableText variables budget table)) ∷ [])
 
 -- "An accepted call writes nothing past its output's end."
 unfoldable pub writeStep : ℕ → ℕ → List ℕ → List ℕ → List ℕ
@@ -113,6 +102,10 @@ written variables budget table out = writtenAs (writeWhy variables budget table 
 
 -- the lent bytes afterwards
 unfoldable pub writeOut : ℕ → ℕ → List ℕ → List ℕ → List ℕ
-writeOut variables budget table out =
-    let step = writeStep variables budget table out in
-    unlessRefused (writeWhy variables budget table out) step out
+writeOut variables budget table out = unlessRefused (writeWhy variables budget table out) (writeStep variables budget table out) out
+
+-- Reader: first three lines (20), 1, 9, 2, 4, the rest (20). What the first three lines say is judged by 1, 9, 2, 4.
+abbrev pub figuresOrder : ℕ → ℕ → ℕ → ℕ → List Rule
+figuresOrder room variables budget m =
+    TooManyVariables when ltb mostVariables variables ∷ BadBudget when ltb mostBudget budget ∷ BadTable when ltb mostRows m
+    ∷ NoRoom when ltb room (rowWords * m) ∷ []

@@ -22,44 +22,23 @@ mostBudget = 4_294_967_295
 
 -- "Fixing one more variable makes a new partial reading"
 unfoldable pub fixed : Part → ℕ → Bool → Part
-fixed p v value =
-    record {
-      decided = bitOr (p .decided) (single v);
-      truths = cond value (bitOr (p .truths) (single v)) (p .truths);
-    }
+fixed p v value = record { decided = bitOr (p .decided) (single v); truths = cond value (bitOr (p .truths) (single v)) (p .truths) }
+
+-- how far a walk has come: nodes visited, the weight to stay below, whether a reading is kept and which, whether a node was due that couldn't be
+abbrev pub walked : ℕ → ℕ → Bool → ℕ → Bool → Walked
+walked nodes best kept reading stopped = record { nodes = nodes; best = best; kept = kept; reading = reading; stopped = stopped }
 
 -- "Visiting a node counts 1."
 unfoldable pub visited : Walked → Walked
-visited s =
-    record {
-      nodes = s .nodes + 1;
-      best = s .best;
-      kept = s .kept;
-      reading = s .reading;
-      stopped = s .stopped;
-    }
+visited s = walked (s .nodes + 1) (s .best) (s .kept) (s .reading) (s .stopped)
 
 -- "With no variable left, its bound becomes best and its reading is kept."
 unfoldable pub keptAt : ℕ → ℕ → Walked → Walked
-keptAt weight reading s =
-    record {
-      nodes = s .nodes;
-      best = weight;
-      kept = true;
-      reading = reading;
-      stopped = s .stopped;
-    }
+keptAt weight reading s = walked (s .nodes) weight true reading (s .stopped)
 
 -- "if one was due and couldn't be, the search is stopped"
 unfoldable pub halted : Walked → Walked
-halted s =
-    record {
-      nodes = s .nodes;
-      best = s .best;
-      kept = s .kept;
-      reading = s .reading;
-      stopped = true;
-    }
+halted s = walked (s .nodes) (s .best) (s .kept) (s .reading) true
 
 -- A node is due. "A node is entered only while the count is below the budget"; "If its bound is at least best, it is cut";
 -- else what is beyond the cut.
@@ -84,14 +63,7 @@ undecided (suc n) decided = undecided n decided ++ cond (has decided n) [] (n �
 
 -- "The walk starts with best = conceded + all weights in use + 1 and no reading."
 unfoldable pub atStart : List ℕ → Walked
-atStart d =
-    record {
-      nodes = 0;
-      best = weightOn d + 1;
-      kept = false;
-      reading = 0;
-      stopped = false;
-    }
+atStart d = walked 0 (weightOn d + 1) false 0 false
 
 unfoldable pub walkOf : (Part → ℕ) → (ℕ → Bool) → List ℕ → ℕ → Walked
 walkOf bound first d budget = walk bound first budget (undecided (variables d) (decided d)) (decisions d) (atStart d)

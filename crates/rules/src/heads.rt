@@ -1,7 +1,7 @@
 // The first words of a desk, and the limits of what lies behind them.
 ghost use mathlib.Core.Path.{_≡_};
 ghost use lib.ListN.{getD};
-ghost use Rattle.rules.specs.Desk.{headOf};
+ghost use Rattle.rules.specs.Figures.{headOf};
 use crate::Desk;
 use crate::Entry;
 

@@ -4,14 +4,10 @@ use literals::Lits;
 
 mod heads;
 mod parts;
-mod refusals;
 mod rows;
 mod ties;
 
 pub use heads::word;
-pub use rows::bad_lits;
-pub use rows::bad_weight;
-pub use rows::holds;
 pub use ties::all_figures;
 
 // A row of a table: its literals and its weight.
@@ -112,6 +108,9 @@ pub enum Refusal {
     BadText(u64),
 }
 
+// A refusal's number and place.
+pub struct Numbered(pub u64, pub u64);
+
 // The answer of a call that has nothing else to say.
 pub enum Judged {
     Fine,
@@ -142,7 +141,7 @@ pub enum Parsed {
     Broken,
 }
 
-// A literal of a text and the place behind it.
+// A literal of a text and the place behind it, in the definitions' words: sign and variable. The reader's own is a signed number.
 pub enum Signed {
     Literal {
         positive: bool,

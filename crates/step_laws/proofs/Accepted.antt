@@ -20,7 +20,8 @@ use Rattle.rules.specs.declared.Judged.the-variants.{Fine}
 use Rattle.rules.specs.Table.{mostWeight}
 use Rattle.rules.specs.Desk.{headWords, variables, inUse, capacity, standing, conceded, decided, truths, loaded, entryWords, rowPlace, entryPlace}
 use Rattle.rules.specs.Desk.{deskWords, rowOn, weightOn, weightFits, decisions, remnant}
-use Rattle.rules.specs.Rewrite.{mostNamed, most, fewerAdded, countFits, distinct, remnantOf, apartFrom, given, stored, empties, lightest, reweighed}
+use Rattle.rules.specs.Rewrite.{apartFrom, given, lightest}
+use Rattle.rules.specs.Steps.{mostNamed, most, fewerAdded, countFits, distinct, remnantOf, stored, empties, reweighed}
 use Rattle.rules.specs.TakeBack.{lastKind, lastCount, lastNamed, lastFirst, mergedEmpty, lastConceded, undoRewriting, takeBackStep, badRewriting}
 use Rattle.rules.specs.TakeBack.{badLast, takeBackWhy}
 use Rattle.step_laws.specs.Clean.{Clean}

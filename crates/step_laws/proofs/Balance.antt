@@ -13,7 +13,8 @@ use Rattle.literals.specs.declared.Lits.{Lits}
 use Rattle.rules.specs.declared.Row.{Row}
 use Rattle.rules.specs.Table.{newRow}
 use Rattle.rules.specs.Desk.{inUse, rowPlace, rowOn, setRow, setWeight}
-use Rattle.rules.specs.Rewrite.{reweighed, laid}
+use Rattle.rules.specs.Rewrite.{laid}
+use Rattle.rules.specs.Steps.{reweighed}
 use Rattle.desk_laws.proofs.Formed.{rows-inside, place-mono}
 use Rattle.desk_laws.proofs.Stores.{Distinct, set-weight-same, set-weight-other, set-row-same, set-row-other, length-set-row, length-reweighed, reweighed-yet}
 use Rattle.desk_laws.proofs.Weights.{share, measured}

@@ -23,8 +23,10 @@ use Rattle.masks.proofs.Sums.{sum-empty, sum-suc}
 use Rattle.literals.specs.declared.Lits.{Lits}
 use Rattle.literals.specs.Lits.{noLits, negatedLits, together, variablesOf, isEmpty, sameLits}
 use Rattle.literals.proofs.TwoMasks.{same-eq, variables-negated}
-use Rattle.rules.specs.Rewrite.{fewest, most, fewerAdded, concedes, countFits, shows, lit, links, compensating, clash as meet, apartFrom, forked}
-use Rattle.rules.specs.Rewrite.{merges, shifts, chains, forks, fits, gives, stored, empties}
+use Rattle.rules.specs.Rewrite.{shows, lit, links, compensating, clash as meet, apartFrom, forked}
+use Rattle.rules.specs.Steps.{fewest, most, fewerAdded, concedes, countFits}
+use Rattle.rules.specs.Rewrite.{merges, shifts, chains, forks, fits, gives}
+use Rattle.rules.specs.Steps.{stored, empties}
 use Rattle.desk_laws.proofs.Formed.{Sound}
 use Rattle.desk_laws.proofs.Weights.{missed}
 use Rattle.step_laws.proofs.Balance.{total}

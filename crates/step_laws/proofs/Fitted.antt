@@ -1,27 +1,22 @@
 -- 14 in document 01's words: where 10, 11 and 13 are not given, it is given exactly when the named rows fit no line of the step table.
 -- A desk that is well formed has sound remnants, and of these the table in words and the definitions of `rules` say the same.
-use Prim.Native.Nat.{ℕ, _+_, _≤_, _<_}
-use mathlib.Core.Path.{_≡_, refl, sym, ap, _∙_}
+use Prim.Native.Nat.{ℕ, _≤_, _<_}
+use mathlib.Core.Path.{_≡_}
 use mathlib.Core.Bool.{Bool, true, false, not, _&&_, _||_}
-use mathlib.Core.Logic.{_↔_, ⊎-elim}
 use mathlib.Core.List.{List}
 use native.Mathlib.Omega.{arith}
-use borrow.Author.Tests.{ltb-true, leb-true, not-true, not-false}
+use borrow.Author.Tests.{ltb-true, leb-true, not-true}
 use lib.Dec.{leb, ltb}
 use lib.ListN.{length, getD}
 use Rattle.masks.specs.Sums.{every}
-use Rattle.masks.proofs.Choice.{cases, clash, impossible, and-left, and-right, both, or-none}
+use Rattle.masks.proofs.Choice.{and-left, and-right, both, or-none}
 use Rattle.masks.proofs.Sums.{every-at, every-true}
 use Rattle.literals.specs.declared.Lits.{Lits}
-use Rattle.rules.specs.declared.Refusal.{Refusal}
-use Rattle.rules.specs.declared.Refusal.the-variants.{BadDesk, TooManySteps, BadNaming, BadFit, DeskFull}
-use Rattle.rules.specs.declared.Judged.{Judged}
-use Rattle.rules.specs.declared.Judged.the-variants.{Fine, Refused}
-use Rattle.rules.specs.Refusals.{refuse}
-use Rattle.rules.specs.Desk.{variables, inUse, capacity, standing, mostSteps, wellFormed, decisions, satisfied, rowOn, spent}
-use Rattle.rules.specs.Rewrite.{fewest, countFits, distinct, wellNamed, remnantOf, fits, stored, given, wellFitted, rewriteWhy}
+use Rattle.rules.specs.Desk.{variables, inUse, decisions, satisfied, rowOn, spent}
+use Rattle.rules.specs.Rewrite.{fits, given, wellFitted}
+use Rattle.rules.specs.Steps.{fewest, countFits, distinct, wellNamed, remnantOf}
 use Rattle.step_laws.specs.StepTable.{FitsALine}
-use Rattle.desk_laws.proofs.Formed.{Sound, Formed, formed}
+use Rattle.desk_laws.proofs.Formed.{Sound, Formed}
 use Rattle.step_laws.proofs.Accepted.{remnant-sound}
 use Rattle.step_laws.proofs.ByKind.{by-kind, counted}
 use Rattle.step_laws.proofs.InWords.{words-fit}
@@ -94,37 +89,3 @@ module _ (d : List ℕ) (kind : ℕ) (named : List ℕ) where
         let some = some-named kind (length named) (w .known .0) (w .known .1) (w .count) in
         both (every-true (length named) (λ i l. rw (f .unspent i l, f .unsatisfied i l)))
         (words-fit (remnantOf d named) (sound 0 some .once) (f .line) .0)
-
-  -- ---- by the call
-
-  abbrev why : Judged
-  why = rewriteWhy d kind named
-
-  -- nothing earlier is due
-  unrefused : (b : Bool) (r : Refusal) (after : Judged) → (refuse b r after ≡ Refused r → ⊥) → (b ≡ false) × (refuse b r after ≡ after)
-  unrefused true r after n = absurd (n refl)
-  unrefused false r after n = (refl, refl)
-
-  fit-refused : (t full : Bool) → refuse (not t) BadFit (refuse full DeskFull Fine) ≡ Refused BadFit → t ≡ false
-  fit-refused false full e = refl
-  fit-refused true true e = impossible (cc)
-  fit-refused true false e = impossible (cc)
-
-  pub fourteen : (why ≡ Refused BadDesk → ⊥) → (why ≡ Refused TooManySteps → ⊥) → (why ≡ Refused BadNaming → ⊥)
-      → (why ≡ Refused BadFit) ↔ ((gives : List Lits) → FitsALine d kind named gives → ⊥)
-  unfolding rewriteWhy
-  fourteen n10 n11 n13 =
-      let full : Bool = ltb (capacity d) (inUse d + length (stored (given d kind named))) in
-      let last : Judged = refuse full DeskFull Fine in
-      let a = unrefused (not (wellFormed d)) BadDesk _ n10 in
-      let b = unrefused (leb mostSteps (standing d)) TooManySteps _ (λ e. n11 (a .1 ∙ e)) in
-      let c = unrefused (not (wellNamed d kind named)) BadNaming (refuse (not (wellFitted d kind named)) BadFit last) (λ e. n13 (a .1 ∙ b .1 ∙ e)) in
-      let is : why ≡ refuse (not (wellFitted d kind named)) BadFit last = a .1 ∙ b .1 ∙ c .1 in
-      let desk : Formed d = formed d (not-false (wellFormed d) (a .0)) in
-      let ok : wellNamed d kind named ≡ true = not-false (wellNamed d kind named) (c .0) in (
-        λ e gives f. clash (words-fitted desk ok f) (fit-refused (wellFitted d kind named) full (sym is ∙ e)),
-        λ none. ⊎-elim
-            (λ t. absurd (none (given d kind named) (fitted-words desk ok t)))
-            (λ t. is ∙ ap (λ (x : Bool). refuse (not x) BadFit last) t)
-            (cases (wellFitted d kind named)),
-      )

@@ -26,7 +26,8 @@ use Rattle.literals.proofs.Opposites.{literal-sized, by-sign-and-size}
 use Rattle.literals.proofs.OneBit.{bit-literal, place-below}
 use Rattle.literals.proofs.TwoMasks.{Held, same-eq, lits-opposite, lits-positive, lits-negative, variables-lits}
 use Rattle.literals.proofs.OneLiteral.{one-lits}
-use Rattle.rules.specs.Rewrite.{fewest, most, countFits, shows, lit, links, clash as meet, apartFrom, forked, merges, shifts, chains, forks, fits, gives}
+use Rattle.rules.specs.Rewrite.{shows, lit, links, clash as meet, apartFrom, forked, merges, shifts, chains, forks, fits, gives}
+use Rattle.rules.specs.Steps.{fewest, most, countFits}
 use Rattle.step_laws.specs.StepTable.{Pair, Linked, Fits, merge, shift, chain, fork}
 use Rattle.desk_laws.proofs.Formed.{Sound}
 use Rattle.step_laws.proofs.Sounds.{sound-held, less-sound, shows-facts}

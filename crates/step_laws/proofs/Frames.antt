@@ -11,7 +11,8 @@ use lib.ListN.{length, getD}
 use Rattle.rules.specs.declared.Judged.the-variants.{Fine}
 use Rattle.rules.specs.Desk.{headWords, inUse, capacity, standing, entryWords, rowPlace, deskWords}
 use Rattle.rules.specs.Decide.{decideWhy, decideStep}
-use Rattle.rules.specs.Rewrite.{given, stored, empties, lightest, rewriteWhy, rewriteStep}
+use Rattle.rules.specs.Rewrite.{given, lightest, rewriteWhy, rewriteStep}
+use Rattle.rules.specs.Steps.{stored, empties}
 use Rattle.rules.specs.TakeBack.{lastPlace, withdrawn}
 use Rattle.step_laws.specs.Framed.{Framed}
 use Rattle.desk_laws.proofs.Formed.{Formed, place-mono}

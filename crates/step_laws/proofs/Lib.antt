@@ -13,7 +13,9 @@ pub mod Closing
 pub mod ByKind
 pub mod Accepted
 pub mod Steps
+pub mod Alike
 pub mod Runs
+pub mod Replays
 pub mod Freed
 pub mod TakingBack
 pub mod Shown

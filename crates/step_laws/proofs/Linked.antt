@@ -16,7 +16,8 @@ use Rattle.literals.specs.declared.Lits.{Lits}
 use Rattle.literals.specs.Lits.{negatedLits, together, variablesOf, isOne}
 use Rattle.literals.proofs.TwoMasks.{variables-negated}
 use Rattle.rules.specs.Table.{holds}
-use Rattle.rules.specs.Rewrite.{shows, lit, links, compensating, empties}
+use Rattle.rules.specs.Rewrite.{shows, lit, links, compensating}
+use Rattle.rules.specs.Steps.{empties}
 use Rattle.desk_laws.proofs.Formed.{Sound}
 use Rattle.desk_laws.proofs.Weights.{missed}
 use Rattle.step_laws.proofs.Balance.{total}

@@ -11,7 +11,8 @@ use lib.Seq.{getD-set-same, getD-set-other, getD-append-add, getD-take, getD-dro
 use Rattle.literals.specs.declared.Lits.{Lits}
 use Rattle.rules.specs.Desk.{headWords, inUse, capacity, standing, conceded, entryWords, mostSteps, rowPlace, entryPlace, rowOn}
 use Rattle.rules.specs.Decide.{entered}
-use Rattle.rules.specs.Rewrite.{mostNamed, stored, empties, given, lightest, reweighed, laid, rewritingEntry, rewriteStep}
+use Rattle.rules.specs.Rewrite.{given, lightest, laid, rewritingEntry, rewriteStep}
+use Rattle.rules.specs.Steps.{mostNamed, stored, empties, reweighed}
 use Rattle.rules.specs.TakeBack.{lastPlace, lastKind, lastWeight, lastCount, lastNamed, lastFirst}
 use Rattle.desk_laws.proofs.Formed.{Formed, head-inside}
 use Rattle.desk_laws.proofs.Stores.{Distinct, Outside, row-same, length-reweighed, length-laid, laid-out, laid-head, reweighed-out, reweighed-head}

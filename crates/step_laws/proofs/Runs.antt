@@ -1,9 +1,9 @@
 -- Any run of calls after an accepted load. A desk reached by calls is the load, or an accepted decision or rewriting on a desk so reached;
 -- taking back its last step gives the desk before it again, and a refused call the desk itself. So each call leads from a reached desk to a reached desk,
 -- and what a reached desk is known by (well formed, clean, weights as at the start, the load followed by its standing steps) holds after every run.
-use Prim.Native.Nat.{ℕ, suc, _+_, _≤_}
+use Prim.Native.Nat.{ℕ, zero, suc, _+_, _≤_}
 use mathlib.Core.Path.{_≡_, refl, sym, ap, _∙_, subst, subst₂}
-use mathlib.Core.Bool.{Bool, true, false, not}
+use mathlib.Core.Bool.{Bool, true, false, not, _||_}
 use mathlib.Core.List.{List, [], _∷_, _++_}
 use native.Mathlib.Numerals.{add-one}
 use native.Mathlib.Omega.{arith}
@@ -12,19 +12,22 @@ use lib.ListN.{getD, length, replicate, length-append}
 use lib.IntN.{ℤ}
 use Rattle.masks.proofs.Choice.{impossible}
 use Rattle.rules.specs.declared.Refusal.{Refusal}
+use Rattle.rules.specs.declared.Refusal.the-variants.{TooManyVariables, BadTable, BadCapacity, NoRoom, BadLiterals, BadWeight, SumTooLarge}
 use Rattle.rules.specs.declared.Refusal.the-variants.{BadDesk, TooManySteps, BadLiteral, BadNaming, BadFit, DeskFull, NothingStands}
 use Rattle.rules.specs.declared.Judged.{Judged}
 use Rattle.rules.specs.declared.Judged.the-variants.{Fine, Refused}
-use Rattle.rules.specs.Refusals.{refuse}
-use Rattle.rules.specs.Table.{weighs}
-use Rattle.rules.specs.Desk.{deskWords, mostSteps, inUse, capacity, standing, wellFormed, loadWhy, loadStep, deskWeighs, keeps}
+use Rattle.literals.specs.Literal.{mostVariables}
+use Rattle.rules.specs.Refusals.{refuse, inOrder, unlessRefused}
+use Rattle.rules.specs.Table.{rowOf, rowCount, weighs, badTable, badLits, badWeight, rowWhy, rowsWhy, sumTooLarge}
+use Rattle.rules.specs.Desk.{deskWords, mostCapacity, mostSteps, inUse, capacity, standing, wellFormed, loadWhy, loadStep, loadDesk, deskWeighs, keeps}
 use Rattle.rules.specs.Decide.{badLiteral, decideWhy, decideStep, decideDesk}
-use Rattle.rules.specs.Rewrite.{stored, given, wellNamed, wellFitted, rewriteWhy, rewriteStep, rewriteDesk}
+use Rattle.rules.specs.Rewrite.{given, wellFitted, rewriteWhy, rewriteStep, rewriteDesk}
+use Rattle.rules.specs.Steps.{stored, wellNamed}
 use Rattle.rules.specs.TakeBack.{takeBackWhy, takeBackStep, takeBackDesk}
-use Rattle.rules.specs.Calls.{Call, decide, rewrite, takeBack, callWhy, unlessRefused, afterCall, afterCalls}
+use Rattle.rules.specs.Calls.{Call, decide, rewrite, takeBack, load, callWhy, afterCall, afterCalls}
 use Rattle.step_laws.specs.Clean.{Clean}
 use Rattle.step_laws.specs.Framed.{Framed}
-use Rattle.step_laws.specs.Standing.{withoutLast, standingAfter, standingFrom, standingCalls, AllFine, NeverTen}
+use Rattle.step_laws.specs.Standing.{withoutLast, standingAfter, standingFrom, standingCalls, AllFine, NeverTen, LoadRefused, LoadsRefused}
 use Rattle.step_laws.proofs.Loads.{load-fine, loaded-capacity, loaded-past}
 use Rattle.step_laws.proofs.Frames.{framed-same, framed-then, decide-framed, rewrite-framed}
 use Rattle.step_laws.proofs.Steps.{load-formed, load-clean, load-weighs, load-rest, decide-undone, decide-standing, decide-formed}
@@ -45,13 +48,15 @@ abbrev pub callStep : List ℕ → Call → List ℕ
 callStep d (decide l) = decideStep d l
 callStep d (rewrite kind named) = rewriteStep d kind named
 callStep d takeBack = takeBackStep d
+callStep d (load n table c) = loadStep n table c d
 
 -- a call's words are its step's, unless it is refused
 by-step : (d : List ℕ) (call : Call) → afterCall d call ≡ unlessRefused (callWhy d call) (callStep d call) d
-unfolding afterCall decideDesk rewriteDesk takeBackDesk
+unfolding afterCall decideDesk rewriteDesk takeBackDesk loadDesk
 by-step d (decide l) = refl
 by-step d (rewrite kind named) = refl
 by-step d takeBack = refl
+by-step d (load n table c) = refl
 
 pub after-fine : (d : List ℕ) (call : Call) → callWhy d call ≡ Fine → afterCall d call ≡ callStep d call
 after-fine d call e = by-step d call ∙ rw e
@@ -135,6 +140,31 @@ never-rewrite d kind named w e =
     (neither-ten full DeskFull Fine (λ q. impossible (cc)) fine-not-ten)))
     (rw w at e)
 
+-- a load is not refused so on any words
+neither-first : (first after : Judged) → (first ≡ Refused BadDesk → ⊥) → (after ≡ Refused BadDesk → ⊥) → inOrder first after ≡ Refused BadDesk → ⊥
+neither-first Fine after h k e = k e
+neither-first (Refused r) after h k e = h e
+
+never-rows : (n : ℕ) (table : List ℕ) (k : ℕ) → rowsWhy n table k ≡ Refused BadDesk → ⊥
+unfolding rowsWhy rowWhy
+never-rows n table zero e = fine-not-ten e
+never-rows n table (suc k) e =
+    neither-first (rowsWhy n table k) (rowWhy n k (rowOf table k)) (never-rows n table k)
+    (neither-ten (badLits n (rowOf table k .lits)) (BadLiterals k) (refuse (badWeight (rowOf table k .weight)) (BadWeight k) Fine) (λ q. impossible (cc))
+    (neither-ten (badWeight (rowOf table k .weight)) (BadWeight k) Fine (λ q. impossible (cc)) fine-not-ten))
+    e
+
+pub never-load : (n : ℕ) (table : List ℕ) (c : ℕ) (d : List ℕ) → loadWhy n table c d ≡ Refused BadDesk → ⊥
+unfolding loadWhy
+never-load n table c d e =
+    neither-ten (ltb mostVariables n) TooManyVariables _ (λ q. impossible (cc))
+    (neither-ten (badTable table) BadTable _ (λ q. impossible (cc))
+    (neither-ten (ltb c (rowCount table) || ltb mostCapacity c) BadCapacity _ (λ q. impossible (cc))
+    (neither-ten (ltb (length d) (deskWords c)) NoRoom _ (λ q. impossible (cc))
+    (neither-first (rowsWhy n table (rowCount table)) _ (never-rows n table (rowCount table))
+    (neither-ten (sumTooLarge table) SumTooLarge Fine (λ q. impossible (cc)) fine-not-ten)))))
+    e
+
 -- ---- each call, from a reached desk to a reached desk
 
 module _ (start : List ℕ) (weight : ℕ → ℕ) (base : Known start weight start []) (nothing : standing start ≡ 0) where
@@ -152,19 +182,21 @@ module _ (start : List ℕ) (weight : ℕ → ℕ) (base : Known start weight st
       subst₂ (Reached start) (sym (rewrite-undone d kind named fine (known start weight base m .clean) .1)) (sym (last-off calls (rewrite kind named))) m
 
   -- whatever a call's judgement is
-  judged : {d : List ℕ} {calls : List Call} → Reached start d calls → (call : Call) (j : Judged) → callWhy d call ≡ j
+  judged : {d : List ℕ} {calls : List Call} → Reached start d calls → (call : Call) → LoadRefused d call → (j : Judged) → callWhy d call ≡ j
       → Reached start (unlessRefused j (callStep d call) d) (standingAfter j call calls)
-  judged m (decide l) Fine e = deciding m l e
-  judged m (rewrite kind named) Fine e = rewriting m kind named e
-  judged m takeBack Fine e = taken-back m e
-  judged m (decide l) (Refused r) e = m
-  judged m (rewrite kind named) (Refused r) e = m
-  judged m takeBack (Refused r) e = m
+  judged m (decide l) unless Fine e = deciding m l e
+  judged m (rewrite kind named) unless Fine e = rewriting m kind named e
+  judged m takeBack unless Fine e = taken-back m e
+  judged m (load n table c) unless Fine e = absurd (unless e)
+  judged m (decide l) unless (Refused r) e = m
+  judged m (rewrite kind named) unless (Refused r) e = m
+  judged m takeBack unless (Refused r) e = m
+  judged m (load n table c) unless (Refused r) e = m
 
-  pub called : {d : List ℕ} {calls : List Call} → Reached start d calls → (call : Call)
+  pub called : {d : List ℕ} {calls : List Call} → Reached start d calls → (call : Call) → LoadRefused d call
       → Reached start (afterCall d call) (standingAfter (callWhy d call) call calls)
-  called {d} {calls} m call =
-      subst (λ (e : List ℕ). Reached start e (standingAfter (callWhy d call) call calls)) (sym (by-step d call)) (judged m call (callWhy d call) refl)
+  called {d} {calls} m call unless =
+      subst (λ (e : List ℕ). Reached start e (standingAfter (callWhy d call) call calls)) (sym (by-step d call)) (judged m call unless (callWhy d call) refl)
 
   -- ---- never a 10
 
@@ -177,17 +209,19 @@ module _ (start : List ℕ) (weight : ℕ → ℕ) (base : Known start weight st
   never-ten {d} m (decide l) e = never-decide d l (known start weight base m .formed) e
   never-ten {d} m (rewrite kind named) e = never-rewrite d kind named (known start weight base m .formed) e
   never-ten m takeBack e = never-back m e
+  never-ten {d} m (load n table c) e = never-load n table c d e
 
   -- ---- any run
 
-  pub run : (calls : List Call) {d : List ℕ} {before : List Call} → Reached start d before → Reached start (afterCalls d calls) (standingFrom d before calls)
+  pub run : (calls : List Call) {d : List ℕ} {before : List Call} → Reached start d before → LoadsRefused d calls
+      → Reached start (afterCalls d calls) (standingFrom d before calls)
   unfolding afterCalls standingFrom
-  run [] m = m
-  run (call ∷ calls) m = run calls (called m call)
+  run [] m unless = m
+  run (call ∷ calls) m unless = run calls (called m call (unless .0)) (unless .1)
 
-  pub run-never : (calls : List Call) {d : List ℕ} {before : List Call} → Reached start d before → NeverTen d calls
-  run-never [] m = tt
-  run-never (call ∷ calls) m = (never-ten m call, run-never calls (called m call))
+  pub run-never : (calls : List Call) {d : List ℕ} {before : List Call} → Reached start d before → LoadsRefused d calls → NeverTen d calls
+  run-never [] m unless = tt
+  run-never (call ∷ calls) m unless = (never-ten m call, run-never calls (called m call (unless .0)) (unless .1))
 
 -- ---- what stands can be made again, and taken back
 
@@ -230,11 +264,8 @@ module _ (start : List ℕ) (weight : ℕ → ℕ) (base : Known start weight st
 
 -- ---- demand 3, for every accepted load and every run of calls
 
-module _ (n : ℕ) (table : List ℕ) (c : ℕ) (d : List ℕ) (fine : loadWhy n table c d ≡ Fine) (calls : List Call) where
-  abbrev start : List ℕ
-  start = loadStep n table c d
-
-  base : Known start (weighs table) start []
+module _ (n : ℕ) (table : List ℕ) (c : ℕ) (d : List ℕ) (fine : loadWhy n table c d ≡ Fine) where
+  pub base : Known (loadStep n table c d) (weighs table) (loadStep n table c d) []
   unfolding afterCalls
   base =
       record {
@@ -242,38 +273,35 @@ module _ (n : ℕ) (table : List ℕ) (c : ℕ) (d : List ℕ) (fine : loadWhy n
         clean = load-clean n table c d fine;
         weights = λ reading h. load-weighs n table c d fine reading;
         replayed = refl;
-        framed = framed-same start;
+        framed = framed-same (loadStep n table c d);
       }
+
+module _ (n : ℕ) (table : List ℕ) (c : ℕ) (d : List ℕ) (fine : loadWhy n table c d ≡ Fine) (calls : List Call)
+    (loads : LoadsRefused (loadStep n table c d) calls) where
+  abbrev start : List ℕ
+  start = loadStep n table c d
 
   pub made : Reached start (afterCalls start calls) (standingCalls start calls)
   unfolding standingCalls
-  made = run start (weighs table) base (load-rest n table c d fine .0) calls laid-out
+  made = run start (weighs table) (base n table c d fine) (load-rest n table c d fine .0) calls laid-out loads
 
   result : Known start (weighs table) (afterCalls start calls) (standingCalls start calls)
-  result = known start (weighs table) base made
+  result = known start (weighs table) (base n table c d fine) made
 
   -- a reading that keeps the decisions weighs on the desk what it weighs on the table
   pub run-weighs : (reading : ℕ) → keeps (afterCalls start calls) reading ≡ true → deskWeighs (afterCalls start calls) reading ≡ weighs table reading
   run-weighs = result .weights
 
-  -- the desk is, word for word, the load followed by the steps that stand
-  pub run-replays : afterCalls start calls ≡ afterCalls start (standingCalls start calls)
-  run-replays = result .replayed
-
-  -- and each of these is accepted where it is made again
-  pub run-accepted : AllFine start (standingCalls start calls)
-  run-accepted = made-again start (weighs table) base made
-
   pub run-standing : standing (afterCalls start calls) ≡ length (standingCalls start calls)
-  run-standing = made-standing start (weighs table) base (load-rest n table c d fine .0) made
+  run-standing = made-standing start (weighs table) (base n table c d fine) (load-rest n table c d fine .0) made
 
   -- taking back every standing step restores the load, word for word
   pub run-unwinds : afterCalls (afterCalls start calls) (replicate (standing (afterCalls start calls)) takeBack) ≡ start
-  run-unwinds = rw run-standing (unwound start (weighs table) base made)
+  run-unwinds = rw run-standing (unwound start (weighs table) (base n table c d fine) made)
 
   -- no call was refused with 10
   pub run-never-ten : NeverTen start calls
-  run-never-ten = run-never start (weighs table) base (load-rest n table c d fine .0) calls laid-out
+  run-never-ten = run-never start (weighs table) (base n table c d fine) (load-rest n table c d fine .0) calls laid-out loads
 
   pub run-formed : wellFormed (afterCalls start calls) ≡ true
   run-formed = result .formed

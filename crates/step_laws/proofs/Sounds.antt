@@ -19,7 +19,8 @@ use Rattle.masks.proofs.Counts.{count-zero}
 use Rattle.literals.specs.declared.Lits.{Lits}
 use Rattle.literals.specs.Lits.{noLits, negatedLits, together, less, variablesOf, isEmpty, sameLits, isOne}
 use Rattle.literals.proofs.TwoMasks.{Held, same-eq, empty-masks, masks-empty, empty-none}
-use Rattle.rules.specs.Rewrite.{shows, apartFrom, stored, empties}
+use Rattle.rules.specs.Rewrite.{shows, apartFrom}
+use Rattle.rules.specs.Steps.{stored, empties}
 use Rattle.desk_laws.proofs.Formed.{Sound}
 use Rattle.desk_laws.proofs.Weights.{missed}
 use Rattle.step_laws.proofs.Balance.{total}

@@ -2,16 +2,19 @@
 -- An accepted call says that its desk is well formed, so no law asks for it again.
 use Prim.Native.Nat.{ℕ, _+_, _*_, _≤_}
 use mathlib.Core.Path.{_≡_, sym, _∙_}
-use mathlib.Core.Bool.{true}
+use mathlib.Core.Bool.{true, cond}
 use mathlib.Core.List.{List}
 use native.Mathlib.Omega.{arith}
+use lib.Bits.{bitOr}
 use lib.IntN.{ℤ}
 use lib.ListN.{length}
+use Rattle.literals.specs.Literal.{isPositive, bitOf}
 use Rattle.rules.specs.declared.Judged.the-variants.{Fine}
 use Rattle.rules.specs.Table.{weighs}
 use Rattle.rules.specs.Desk.{variables, weightOn, standing, conceded, decided, truths, wellFormed, loadWhy, loadStep, deskWeighs, keeps}
 use Rattle.rules.specs.Decide.{decideWhy, decideStep}
-use Rattle.rules.specs.Rewrite.{remnantOf, given, stored, empties, lightest, rewriteWhy, rewriteStep}
+use Rattle.rules.specs.Rewrite.{given, lightest, rewriteWhy, rewriteStep}
+use Rattle.rules.specs.Steps.{remnantOf, stored, empties}
 use Rattle.rules.specs.TakeBack.{takeBackWhy, takeBackStep}
 use Rattle.step_laws.specs.Clean.{Clean}
 use Rattle.step_laws.specs.StepTable.{Fits}
@@ -19,7 +22,7 @@ use Rattle.desk_laws.proofs.Formed.{well, head-inside}
 use Rattle.desk_laws.proofs.Verdicts.{decide-fine, rewrite-fine}
 use Rattle.desk_laws.proofs.Weights.{missed, weighs-measured}
 use Rattle.step_laws.proofs.Rewritings.{step-rewritten, rewritten-head, rewritten-standing}
-use Rattle.step_laws.proofs.Decisions.{decided-standing}
+use Rattle.step_laws.proofs.Decisions.{decided-standing, decided-decided, decided-truths}
 use Rattle.step_laws.proofs.DecisionKept.{decision-undone, decision-fine, decided-formed, decided-clean, decided-measured, keeps-facts, kept-before}
 use Rattle.step_laws.proofs.Accepted.{remnants-sound, weight-no-more, plan, undone, back-fine, rewritten-formed, rewritten-clean, weights-kept}
 use Rattle.step_laws.proofs.Found.{fit-words}
@@ -49,6 +52,12 @@ module _ (d : List ℕ) (l : ℤ) (fine : decideWhy d l ≡ Fine) where
 
   pub decide-standing : standing (decideStep d l) ≡ standing d + 1
   decide-standing = decided-standing d l (head-inside (decide-fine d l fine .desk))
+
+  pub decide-masks : (decided (decideStep d l) ≡ bitOr (decided d) (bitOf l))
+      × (truths (decideStep d l) ≡ cond (isPositive l) (bitOr (truths d) (bitOf l)) (truths d))
+  decide-masks =
+      let far = head-inside (decide-fine d l fine .desk) in
+      (decided-decided d l far, decided-truths d l far)
 
   pub decide-formed : wellFormed (decideStep d l) ≡ true
   decide-formed = well (decided-formed d l (decide-fine d l fine))
@@ -115,3 +124,10 @@ module _ (d : List ℕ) (kind : ℕ) (named : List ℕ) (fine : rewriteWhy d kin
         head 5 (omega arith),
         head 6 (omega arith),
       )
+
+  pub rewrite-masks : (decided (rewriteStep d kind named) ≡ decided d) × (truths (rewriteStep d kind named) ≡ truths d)
+  rewrite-masks =
+      let p = plan d kind named (rewrite-fine d kind named fine) in
+      let w : ℕ = lightest d named in
+      let head = rewritten-head d kind w named (stored (given d kind named)) (w * empties (given d kind named)) p in
+      rw (step-rewritten d kind named) (head 5 (omega arith), head 6 (omega arith))

@@ -19,7 +19,7 @@ use Rattle.rules.specs.declared.Judged.the-variants.{Fine}
 use Rattle.rules.specs.Refusals.{refuse}
 use Rattle.rules.specs.Table.{mostWeight}
 use Rattle.rules.specs.Desk.{headWords, inUse, capacity, standing, conceded, loaded, weightOn, weightFits, wellFormed}
-use Rattle.rules.specs.Rewrite.{fewest, fewerAdded, countFits, distinct}
+use Rattle.rules.specs.Steps.{fewest, fewerAdded, countFits, distinct}
 use Rattle.rules.specs.TakeBack.{lastKind, lastVariable, lastWeight, lastCount, lastNamed, lastFirst, mergedEmpty, lastConceded, undoDecision}
 use Rattle.rules.specs.TakeBack.{undoRewriting, takeBackStep, badDecision, badRewriting, badLast, takeBackWhy}
 use Rattle.step_laws.specs.Clean.{Clean}

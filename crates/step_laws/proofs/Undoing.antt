@@ -13,7 +13,7 @@ use Rattle.masks.proofs.Words.{zeroed-before, zeroed-out, zeroed-in, length-zer
 use Rattle.rules.specs.declared.Row.{Row}
 use Rattle.rules.specs.Table.{rowWords}
 use Rattle.rules.specs.Desk.{headWords, inUse, conceded, decided, truths, rowPlace, rowOn}
-use Rattle.rules.specs.Rewrite.{reweighed}
+use Rattle.rules.specs.Steps.{reweighed}
 use Rattle.desk_laws.proofs.Formed.{place-mono}
 use Rattle.desk_laws.proofs.Stores.{row-same, row-head, length-reweighed, reweighed-head, reweighed-lits}
 

@@ -12,7 +12,7 @@ use Rattle.literals.specs.declared.Lits.{Lits}
 use Rattle.rules.specs.declared.Row.{Row}
 use Rattle.rules.specs.Table.{withWeight}
 use Rattle.rules.specs.Desk.{headWords, inUse, standing, conceded, entryWords, rowPlace, rowOn, entryPlace}
-use Rattle.rules.specs.Rewrite.{reweighed}
+use Rattle.rules.specs.Steps.{reweighed}
 use Rattle.rules.specs.TakeBack.{lastNamed, lastConceded, withdrawn, undoRewriting}
 use Rattle.step_laws.specs.Clean.{Clean}
 use Rattle.desk_laws.proofs.Formed.{head-inside, rows-inside, place-mono, head-before}

@@ -1,4 +1,4 @@
 pub mod Clean
 pub mod Standing
-pub mod StepTable
 pub mod Framed
+pub mod StepTable

@@ -1,5 +1,5 @@
 -- Document 01's step table once more, row by row, over literals as signed numbers: which remnants a kind names, and what it gives.
--- The definitions of `rules` find the literals out by recursion; that they say the same is a law of this crate.
+-- The definitions of `rules` find the literals out by recursion; that they say the same is a law of this crate and promised.
 use Prim.Native.Nat.{ℕ, zero, suc, _+_, _≤_, _<_}
 use mathlib.Core.Path.{_≡_}
 use mathlib.Core.Bool.{true, false}
@@ -11,7 +11,7 @@ use Rattle.literals.specs.declared.Lits.{Lits}
 use Rattle.literals.specs.Literal.{size, isLiteral, opposite, bitOf, litsOf}
 use Rattle.literals.specs.Lits.{noLits, together, variablesOf}
 use Rattle.rules.specs.Desk.{rowOn, decisions, satisfied, spent}
-use Rattle.rules.specs.Rewrite.{remnantOf}
+use Rattle.rules.specs.Steps.{remnantOf}
 
 -- (a, b): "A remnant holds just the literals shown, each on a variable of its own"
 pub record Pair (r : Lits) (a b : ℤ) : Type 0 where

@@ -9,6 +9,7 @@ use literals::Literal;
 use rules::Judged;
 use rules::Refusal;
 use rules::Row;
+use values::row_why;
 use words::inner::row_in;
 
 // Table words that are no whole rows, or too many of them.
@@ -53,7 +54,7 @@ fn rows_why(variables: u64, table: &[u64], n: usize) -> Judged
 {
     let mut i = 0;
     while i < n {
-        let why = row_in(table, Row::WORDS * i).why(variables, i as u64);
+        let why = row_why(variables, i as u64, row_in(table, Row::WORDS * i));
         let Judged::Fine = why else {
             return why;
         };

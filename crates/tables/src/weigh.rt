@@ -44,7 +44,7 @@ fn given_up(table: &[u64], n: usize, reading: u64) -> u64
     let mut weight = 0;
     let mut i = 0;
     while i < n {
-        weight += row_in(table, Row::WORDS * i).given_up(reading);
+        weight += values::given_up(row_in(table, Row::WORDS * i), reading);
         i += 1;
     }
     weight

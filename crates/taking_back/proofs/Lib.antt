@@ -1,4 +1,1 @@
-pub mod Bad
-pub mod Lasts
-pub mod Regained
 pub mod Undo

@@ -1,15 +1,14 @@
 -- What an accepted taking back has shown, in the words of the functions that write it.
-use Prim.Native.Nat.{ℕ, _+_, _-_, _*_, _^_, _≤_, _<_}
-use mathlib.Core.Path.{_≡_, refl, sym, ap, _∙_}
+use Prim.Native.Nat.{ℕ, _+_, _-_, _*_, _≤_, _<_}
+use mathlib.Core.Path.{_≡_, sym, ap, _∙_}
 use mathlib.Core.List.{List}
-use mathlib.Core.Bool.{Bool, true, false, not, cond, _||_}
-use native.Mathlib.Nat.{mul-le-mul-right, one-mul}
+use mathlib.Core.Bool.{true, false, not, cond}
+use native.Mathlib.Nat.{mul-le-mul-right}
 use native.Mathlib.Omega.{arith}
 use lib.ListN.{length, getD, set, take, length-set}
 use lib.Seq.{getD-set-other, getD-take, length-take-le}
 use lib.Dec.{eqb, ltb}
-use borrow.Author.Tests.{eq-eqb, ne-eqb, leb-true, not-false, eqb-false, ltb-false}
-use Rattle.masks.specs.Sums.{sum}
+use borrow.Author.Tests.{eq-eqb, ne-eqb, leb-true, eqb-false, ltb-false}
 use Rattle.masks.specs.Masks.{has}
 use Rattle.masks.specs.Words.{zeroed}
 use Rattle.masks.proofs.Words.{zeroed-before, length-zeroed}
@@ -17,19 +16,19 @@ use Rattle.masks.proofs.Sums.{le-sum}
 use Rattle.masks.proofs.Choice.{or-left, or-right}
 use Rattle.rules.specs.declared.Judged.the-variants.{Fine}
 use Rattle.rules.specs.Table.{rowWords, mostWeight}
-use Rattle.rules.specs.Desk.{headWords, inUse, capacity, standing, conceded, decided, rowPlace, deskWords, rowOn, weightOn, weightFits}
-use Rattle.rules.specs.Rewrite.{mostNamed, reweighed}
-use Rattle.rules.specs.TakeBack.{lastKind, lastVariable, lastWeight, lastCount, lastNamed, lastFirst, lastConceded, badDecision, badRewriting}
-use Rattle.rules.specs.TakeBack.{badLast, takeBackWhy, undoRewriting, withdrawn}
-use Rattle.desk_laws.proofs.Formed.{Formed, well}
-use Rattle.desk_laws.proofs.Stores.{Distinct, length-reweighed, reweighed-head, reweighed-ext}
+use Rattle.rules.specs.Desk.{headWords, inUse, conceded, decided, rowPlace, deskWords, rowOn, weightOn, weightFits}
+use Rattle.rules.specs.Steps.{mostNamed, reweighed}
+use Rattle.rules.specs.TakeBack.{lastKind, lastVariable, lastWeight, lastCount, lastNamed, lastFirst, badDecision, badRewriting}
+use Rattle.rules.specs.TakeBack.{badLast, takeBackWhy, lastConceded, withdrawn, undoRewriting}
+use Rattle.desk_laws.proofs.Formed.{well}
+use Rattle.desk_laws.proofs.Stores.{length-reweighed, reweighed-head, reweighed-ext}
 use Rattle.step_laws.proofs.TakingBack.{Taken, take-back-fine}
 use Rattle.words.specs.Room.{StepStands}
-use Rattle.named.specs.Reweigh.{Reweighable}
-use Rattle.taking_back.specs.Last.{Stands}
-use Rattle.taking_back.proofs.Lasts.{step-stands}
-use Rattle.taking_back.proofs.Bad.{Good, good, named-apart, named-below, few, some, first-fits}
-use Rattle.taking_back.proofs.Regained.{weight-after}
+use Rattle.named.specs.Reweigh.{Reweighable, namedReweighed}
+use Rattle.last_entry.specs.Last.{Stands}
+use Rattle.last_entry.proofs.Lasts.{step-stands}
+use Rattle.last_entry.proofs.Bad.{Good, good, named-apart, named-below, few, some, first-fits}
+use Rattle.last_entry.proofs.Regained.{weight-after}
 
 two-times : (w : ℕ) → 2 * w ≡ w + w
 two-times w = omega arith
@@ -135,13 +134,25 @@ module _ (d : List ℕ) (fine : takeBackWhy d ≡ Fine) where
             holds = λ i l. omega arith;
           }
 
-      pub regained-same : reweighed (λ x. x + lastWeight d) (λ i. getD named i 0) d (length named) ≡ regained
-      regained-same =
-          ap (reweighed (λ x. x + lastWeight d) (λ i. getD named i 0) d) named-length
+      pub regained-same : {w n : ℕ} {e : List ℕ} → w ≡ lastWeight d → n ≡ lastCount d → e ≡ namedReweighed d (take n rows) w true → e ≡ regained
+      regained-same {w} {n} weight count here =
+          here
+          ∙ ap (λ (u : ℕ). namedReweighed d (take n rows) u true) weight
+          ∙ ap (λ (m : ℕ). namedReweighed d (take m rows) (lastWeight d) true) count
+          ∙ ap (reweighed (λ x. x + lastWeight d) (λ i. getD named i 0) d) named-length
           ∙ reweighed-ext (λ x. x + lastWeight d) (λ i. getD named i 0) (lastNamed d) d (lastCount d) named-at
 
     abbrev pub freed : List ℕ
     freed = zeroed regained (rowPlace (lastFirst d)) (rowWords * (inUse d - lastFirst d))
+
+    pub freed-same : {first : ℕ} {e x : List ℕ} → first ≡ lastFirst d → e ≡ regained → x ≡ zeroed e (rowPlace first) (rowWords * (inUse d - first)) → x ≡ freed
+    freed-same f p here = here ∙ rw (f, p)
+
+    -- the whole undoing, from its parts
+    pub undone-whole : {first back : ℕ} {e x : List ℕ} → first ≡ lastFirst d → back ≡ lastConceded d → e ≡ freed
+        → x ≡ withdrawn (set (set e 1 first) 4 (conceded d - back)) → x ≡ undoRewriting d
+    unfolding undoRewriting
+    undone-whole f b p here = here ∙ rw (f, b, p)
 
     pub stands-after : StepStands freed
     unfolding rowPlace

@@ -3,34 +3,16 @@ ghost use mathlib.Core.Path.{_≡_};
 ghost use Prim.Native.Nat.{_<_};
 ghost use lib.ListN.{set};
 ghost use Rattle.rules.specs.declared.Judged.the-variants.{Fine};
-ghost use Rattle.rules.specs.TakeBack.{takeBackWhy, takeBackStep, undoDecision, undoRewriting, withdrawn, lastKind, lastConceded};
+ghost use Rattle.rules.specs.TakeBack.{takeBackWhy, takeBackStep, undoDecision, undoRewriting, withdrawn, lastKind};
 ghost use Rattle.words.specs.Room.{StepStands};
-ghost use Rattle.taking_back.specs.Last.{Stands};
-use named::concedes;
+use last_entry::inner::conceded_by;
 use named::inner::reweigh;
 use rules::Desk;
 use rules::Entry;
-use rules::word;
 use words::inner::last_rows;
 use words::inner::last_word;
 use words::inner::withdraw;
 use words::inner::zero_rows;
-
-// What the step added to conceded.
-pub fn conceded_by(desk: &[u64]) -> u64
-    requires { ⌜ Stands (now desk) ⌝ }
-    ensures { λ r. ⌜ r ≡ lastConceded (now (desk .entry)) ⌝ }
-{
-    let kind = last_word(desk, Desk::VARIABLES);
-    let w = last_word(desk, Desk::IN_USE);
-    if (kind == 1) & (word(desk, Desk::IN_USE) == last_word(desk, Entry::FIRST)) {
-        return w;
-    }
-    if concedes(kind) == 0 {
-        return 0;
-    }
-    w
-}
 
 // Undoes the last standing step.
 pub fn take_back_step(desk: &mut [u64])

@@ -22,7 +22,8 @@ use Rattle.rules.specs.declared.Listed.{Listed}
 use Rattle.rules.specs.declared.RowRead.{RowRead}
 use Rattle.rules.specs.declared.HeadRead.{HeadRead}
 use Rattle.rules.specs.declared.Judged.the-variants.{Fine}
-use Rattle.rules.specs.Text.{bytes, lineFeed, space, minus, digitZero, mostDigits, firstRowLine, rowLines}
+use Rattle.rules.specs.Text.{bytes, lineFeed, space, minus, digitZero, mostDigits}
+use Rattle.rules.specs.Reader.{firstRowLine, rowLines}
 use Rattle.rules.specs.Reader.{stands, digitRun, valueOf, numberAt, numberLine, literalOf, literalAt, withLiteral, onLiteral, litsFrom, litsLine}
 use Rattle.rules.specs.Reader.{onNumber, rowBy, rowAt, RowsRead, rows, brokenAt, inFront, rowsAt, headAt, restWhy, wordsOf}
 use Rattle.rules.specs.Table.{rowWordsOf, rowWords}

@@ -15,7 +15,8 @@ use Rattle.rules.specs.declared.Refusal.the-variants.{BadText}
 use Rattle.rules.specs.declared.Judged.{Judged}
 use Rattle.rules.specs.declared.Judged.the-variants.{Fine, Refused}
 use Rattle.rules.specs.Table.{rowCount, rowWords}
-use Rattle.rules.specs.Text.{rowsText, tableText, firstRowLine, rowLines}
+use Rattle.rules.specs.Text.{rowsText, tableText}
+use Rattle.rules.specs.Reader.{firstRowLine, rowLines}
 use Rattle.rules.specs.Reader.{headAt, RowsRead, rows, brokenAt, rowsAt, restWhy, headWhy, readWhy, wordsOf, readWords, textRead, textReadAs}
 use Rattle.rules.proofs.Judging.{refuse-fine}
 use Rattle.text_laws.proofs.Stands.{stands-whole}
@@ -23,19 +24,19 @@ use Rattle.text_laws.proofs.Rows.{rows-found}
 use Rattle.text_laws.proofs.Heads.{headText, head-length, table-text, head-found}
 use Rattle.text_laws.proofs.Reading.{head-fine}
 
-count-of : (words : List ℕ) (m : ℕ) → length words ≡ rowWords * m → rowCount words ≡ m
+pub count-of : (words : List ℕ) (m : ℕ) → length words ≡ rowWords * m → rowCount words ≡ m
 unfolding rowCount
 count-of words m e = omega arith
 
 -- rows that are fine are words, and end where the text does
-rest-words : (s : List ℕ) (m : ℕ) (r : RowsRead) → restWhy s m r ≡ Fine → r ≡ rows (wordsOf r) (length s)
+pub rest-words : (s : List ℕ) (m : ℕ) (r : RowsRead) → restWhy s m r ≡ Fine → r ≡ rows (wordsOf r) (length s)
 rest-words s m (rows words next) e =
     let t = refuse-fine (not (eqb next (length s))) (BadText (firstRowLine + rowLines * m)) Fine e in
     ap (rows words) (eqb-true next (length s) (not-false (eqb next (length s)) (t .0)))
 rest-words s m (brokenAt b) e = impossible (cc)
 
 -- the text of its head and its rows
-head-and-rows : (s : List ℕ) (n b m next : ℕ) (words : List ℕ) → headAt s ≡ HeadRead.Lines n b m next → rowsAt m s next firstRowLine ≡ rows words (length s)
+pub head-and-rows : (s : List ℕ) (n b m next : ℕ) (words : List ℕ) → headAt s ≡ HeadRead.Lines n b m next → rowsAt m s next firstRowLine ≡ rows words (length s)
     → s ≡ tableText n b words
 head-and-rows s n b m next words e f =
     let head = head-found s n b m next e in

@@ -1,5 +1,6 @@
 pub mod Matched
 pub mod Stands
+pub mod Cuts
 pub mod Numbers
 pub mod Branches
 pub mod Pieces
@@ -14,3 +15,5 @@ pub mod Heads
 pub mod RoundTrip
 pub mod Converse
 pub mod Found
+pub mod Broken
+pub mod Places

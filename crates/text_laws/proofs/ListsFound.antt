@@ -2,18 +2,19 @@
 -- last variable; the next one is above it, so that it comes behind what is written and changes nothing of it.
 use Prim.Native.Nat.{ℕ, zero, suc, _+_, _-_, _^_, _<_, _≤_}
 use mathlib.Core.Path.{_≡_, refl, sym, ap, subst, _∙_}
-use mathlib.Core.Logic.{_⊎_, inl, inr, ⊎-elim}
+use mathlib.Core.Logic.{inl, inr, ⊎-elim}
 use mathlib.Core.Bool.{Bool, true, false, or-true, or-false}
 use mathlib.Core.List.{List, [], _∷_, _++_}
 use native.Mathlib.Nat.{add-zero}
 use native.Mathlib.Omega.{arith}
 use borrow.Author.Tests.{eqb-true, eqb-false, lt-ltb}
 use lib.Dec.{eqb}
-use lib.Bits.{bitOr}
+use lib.Bits.{bitAnd, bitOr}
 use lib.ListN.{length, getD, length-append}
 use Rattle.masks.specs.Masks.{has, single}
-use Rattle.masks.proofs.Choice.{cases, impossible}
+use Rattle.masks.proofs.Choice.{cases, clash, impossible, lt-or-le}
 use Rattle.masks.proofs.Bits.{has-or, has-past, has-pow-same, has-pow-other, lt-of-has}
+use Rattle.masks.proofs.Sets.{apart, apart-of}
 use Rattle.literals.specs.declared.Lits.{Lits}
 use Rattle.literals.specs.Lits.{noLits}
 use Rattle.literals.specs.Literal.{mostVariables}
@@ -87,6 +88,24 @@ module _ (last : ℕ) (l : Lits) (u : ℕ) (h : u < mostVariables) (k : last ≤
   with-bounds true = (put-bound (l .positive) u h last bp k, wider (l .negative) last (suc u) bn (omega arith))
   with-bounds false = (wider (l .positive) last (suc u) bp (omega arith), put-bound (l .negative) u h last bn k)
 
+  with-apart : bitAnd (l .positive) (l .negative) ≡ 0 → (p : Bool)
+      → bitAnd (withLiteral l p (suc u) .positive) (withLiteral l p (suc u) .negative) ≡ 0
+  unfolding withLiteral
+  with-apart a true =
+      apart-of (bitOr (l .positive) (single (suc u - 1))) (l .negative)
+      (λ w t.
+      ⊎-elim
+      (λ (g : w < u). apart (l .positive) (l .negative) a w (sym (put-low (l .positive) u h w g) ∙ t))
+      (λ (g : u ≤ w). has-past last bn (let z : last ≤ w = omega arith in z))
+      (lt-or-le w u))
+  with-apart a false =
+      apart-of (l .positive) (bitOr (l .negative) (single (suc u - 1)))
+      (λ w t.
+      ⊎-elim
+      (λ (g : w < u). put-low (l .negative) u h w g ∙ apart (l .positive) (l .negative) a w t)
+      (λ (g : u ≤ w). absurd (clash t (has-past last bp (let z : last ≤ w = omega arith in z))))
+      (lt-or-le w u))
+
 -- ---- one literal
 
 literal-stands : (s : List ℕ) (at last : ℕ) (p : Bool) (v next : ℕ) → LiteralFound s at last p v next
@@ -106,6 +125,7 @@ record SoFar (s : List ℕ) (from at last : ℕ) (l : Lits) : Type 0 where
   most : last ≤ mostVariables
   positive : l .positive < 2 ^ last
   negative : l .negative < 2 ^ last
+  both : bitAnd (l .positive) (l .negative) ≡ 0
   stand : stands s from (litsText last l) ≡ true
   place : at ≡ from + length (litsText last l)
   start : Begun (litsText last l) last
@@ -161,6 +181,8 @@ module _ (s : List ℕ) (from at last : ℕ) (l : Lits) (so : SoFar s from at la
         most = f .most;
         positive = subst (λ (x : ℕ). withLiteral l p x .positive < 2 ^ x) (sym one) (bounds .0);
         negative = subst (λ (x : ℕ). withLiteral l p x .negative < 2 ^ x) (sym one) (bounds .1);
+        both = subst (λ (x : ℕ). bitAnd (withLiteral l p x .positive) (withLiteral l p x .negative) ≡ 0) (sym one)
+            (with-apart last l u most above (so .positive) (so .negative) (so .both) p);
         stand = rw text (g .0);
         place = rw text (g .1);
         start = inr (λ z. omega (arith, f .above), rw text (behind-length (litsText last l) (literalText p v) (literal-some p v)));
@@ -171,6 +193,9 @@ module _ (s : List ℕ) (from at last : ℕ) (l : Lits) (so : SoFar s from at la
 pub record ListFound (s : List ℕ) (from : ℕ) (l : Lits) (next : ℕ) : Type 0 where
   pub stand : stands s from (litsText mostVariables l ++ (lineFeed ∷ [])) ≡ true
   pub end : next ≡ from + length (litsText mostVariables l ++ (lineFeed ∷ []))
+  pub positive : l .positive < 2 ^ mostVariables
+  pub negative : l .negative < 2 ^ mostVariables
+  pub both : bitAnd (l .positive) (l .negative) ≡ 0
 
 found-end : (s : List ℕ) (from at last : ℕ) (l : Lits) → SoFar s from at last l → getD s at 0 ≡ lineFeed → ListFound s from l (at + 1)
 found-end s from at last l so e =
@@ -179,6 +204,9 @@ found-end s from at last l so e =
     record {
       stand = rw text (both-stand s from (litsText last l) (lineFeed ∷ []) (so .stand) byte);
       end = rw (text, length-append (litsText last l) (lineFeed ∷ []), so .place) (omega arith);
+      positive = wider (l .positive) last mostVariables (so .positive) (so .most);
+      negative = wider (l .negative) last mostVariables (so .negative) (so .most);
+      both = so .both;
     }
 
 -- a turn that is not the line's end: the literal that it read, and what is found behind it
@@ -233,6 +261,7 @@ so-start s from =
       most = omega arith;
       positive = omega arith;
       negative = omega arith;
+      both = refl;
       stand = stands-none s from;
       place = sym (add-zero from);
       start = inl (refl, refl);

@@ -1,6 +1,6 @@
 -- A whole text read: what the head's figures must be for the rest to be judged, what is stored, and what is answered. Where all is fine there
 -- is room for the words, so that storing them one by one is putting them in front of the rest.
-use Prim.Native.Nat.{ℕ, zero, suc, _+_, _-_, _*_, _<_, _≤_}
+use Prim.Native.Nat.{ℕ, zero, suc, _+_, _*_, _<_, _≤_}
 use mathlib.Core.Path.{_≡_, refl, _∙_}
 use mathlib.Core.List.{List}
 use native.Mathlib.Nat.{zero-add}
@@ -19,7 +19,7 @@ use Rattle.rules.specs.declared.Judged.the-variants.{Fine, Refused}
 use Rattle.rules.specs.Reader.{rowAt, RowsRead, rows, brokenAt, onRow, inFront, rowsAt, headAt, restWhy, headWhy}
 use Rattle.rules.specs.Reader.{readWhy, wordsOf, readWords, readStep, readTable, textRead}
 use Rattle.rules.specs.Table.{rowWordsOf, rowWords, mostRows}
-use Rattle.rules.specs.Text.{firstRowLine, rowLines}
+use Rattle.rules.specs.Reader.{firstRowLine, rowLines}
 use Rattle.rules.specs.Walk.{mostBudget}
 use Rattle.rules.proofs.Judging.{refuse-fine}
 

@@ -1,5 +1,5 @@
--- The round trip: what the writer writes of an admissible table is read back as that table. The text stands at its own start, so each line is
--- read as it was written, the three of the head and the two of each row, and the last row ends where the text does.
+-- The round trip: what the writer writes of a table that the form holds, as of each admissible one, is read back as that table. The text stands at its
+-- own start, so each line is read as it was written, the three of the head and the two of each row, and the last row ends where the text does.
 use Prim.Native.Nat.{ℕ, _+_, _*_, _≤_}
 use mathlib.Core.Path.{_≡_, refl, sym, ap, _∙_}
 use mathlib.Core.Bool.{true}
@@ -15,20 +15,22 @@ use Rattle.rules.specs.declared.Row.{Row}
 use Rattle.rules.specs.declared.HeadRead.{HeadRead}
 use Rattle.rules.specs.declared.TextRead.{TextRead}
 use Rattle.rules.specs.declared.Judged.the-variants.{Fine}
-use Rattle.rules.specs.Refusals.{isFine}
+use Rattle.rules.proofs.Judging.{isFine}
 use Rattle.rules.specs.Walk.{mostBudget}
 use Rattle.rules.specs.Table.{rowCount, rowOf, tableWhy, rowWords, mostRows}
-use Rattle.rules.specs.Text.{rowsText, tableText, firstRowLine}
+use Rattle.rules.specs.Text.{rowsText, tableText}
+use Rattle.rules.specs.Reader.{firstRowLine}
 use Rattle.rules.specs.Reader.{stands, headAt, rows, rowsAt, restWhy, headWhy, readWhy, readWords, textRead}
 use Rattle.rules.proofs.Judging.{is-fine}
 use Rattle.rules.proofs.Admissible.{RowFine, table-fine}
+use Rattle.text_laws.specs.Lines.{RowHeld, Held}
 use Rattle.text_laws.proofs.Stands.{stands-self}
-use Rattle.text_laws.proofs.Rows.{Written, rows-read-back}
+use Rattle.text_laws.proofs.Rows.{rows-read-back}
 use Rattle.text_laws.proofs.Heads.{headText, headEnd, head-length, table-text, head-reads}
 use Rattle.text_laws.proofs.Reading.{to-rest}
 
-fine-written : (n : ℕ) (row : Row) → n ≤ mostVariables → RowFine n row → Written row
-fine-written n row h f =
+fine-held : (n : ℕ) (row : Row) → n ≤ mostVariables → RowFine n row → RowHeld row
+fine-held n row h f =
     record {
       positive = lt-of-lt-of-le (below-lt (row .lits .positive) n (f .positive)) (pow-mono h);
       negative = lt-of-lt-of-le (below-lt (row .lits .negative) n (f .negative)) (pow-mono h);
@@ -51,19 +53,32 @@ put-together s room n b m table next head ln lb lm lr body =
     let why : headWhy s room (HeadRead.Lines n b m next) ≡ Fine = to-rest s room n b m next ln lb lm lr ∙ rest in
     (rw (head, why), rw head why, rw (head, body))
 
-pub round-trip : (n b : ℕ) (table : List ℕ) (room : ℕ) → isFine (tableWhy n table) ≡ true → b ≤ mostBudget → length table ≤ room
-    → ReadBack (tableText n b table) room n b table
-round-trip n b table room ok lb lr =
-    let fine = table-fine n table (is-fine (tableWhy n table) ok) in
+-- whatever the form holds is read back, where its figures keep their limits
+pub held-trip : (n b : ℕ) (table : List ℕ) (room : ℕ) → Held n b table → n ≤ mostVariables → b ≤ mostBudget → rowCount table ≤ mostRows
+    → length table ≤ room → ReadBack (tableText n b table) room n b table
+held-trip n b table room held ln lb lm lr =
     let m = rowCount table in
     let s = tableText n b table in
     let text = rowsText table m in
     let stand : stands s 0 (headText n b m text) ≡ true = rw (← table-text n b table) (stands-self s) in
-    let head = head-reads s n b m text (omega (arith, fine .variables)) (omega arith) (omega (arith, fine .few)) stand in
+    let head = head-reads s n b m text (held .variables-digits) (held .budget-digits) (held .rows-digits) stand in
     let end : headEnd n b m + length text ≡ length s = sym (ap length (table-text n b table) ∙ head-length n b m text) in
     let body : rowsAt m s (headEnd n b m) firstRowLine ≡ rows table (length s) =
-    rows-read-back m s (headEnd n b m) firstRowLine table (fine .whole)
-    (λ j l. fine-written n (rowOf table j) (fine .variables) (fine .rows j l)) (head .1)
-    ∙ ap (rows table) end in
-    let w = put-together s room n b m table (headEnd n b m) (head .0) (fine .variables) lb (fine .few) (omega (arith, fine .whole)) body in
+    rows-read-back m s (headEnd n b m) firstRowLine table (held .whole) (held .rows) (head .1) ∙ ap (rows table) end in
+    let w = put-together s room n b m table (headEnd n b m) (head .0) ln lb lm (omega (arith, held .whole)) body in
     record { answer = w .0; fine = w .1; words = w .2 }
+
+-- an admissible table is held
+pub round-trip : (n b : ℕ) (table : List ℕ) (room : ℕ) → isFine (tableWhy n table) ≡ true → b ≤ mostBudget → length table ≤ room
+    → ReadBack (tableText n b table) room n b table
+round-trip n b table room ok lb lr =
+    let fine = table-fine n table (is-fine (tableWhy n table) ok) in
+    let held : Held n b table =
+    record {
+      variables-digits = omega (arith, fine .variables);
+      budget-digits = omega arith;
+      rows-digits = omega (arith, fine .few);
+      whole = fine .whole;
+      rows = λ j l. fine-held n (rowOf table j) (fine .variables) (fine .rows j l);
+    } in
+    held-trip n b table room held (fine .variables) lb (fine .few) lr

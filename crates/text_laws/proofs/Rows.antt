@@ -1,8 +1,8 @@
 -- Rows. A row is two lines; the rows of a table, one behind the other, are read as its words, and words that are read are those of rows
 -- that stand there, one behind the other.
-use Prim.Native.Nat.{ℕ, zero, suc, _+_, _-_, _*_, _^_, _<_, _≤_}
-use mathlib.Core.Path.{_≡_, refl, sym, ap, _∙_}
-use mathlib.Core.Logic.{_⊎_, ⊎-elim}
+use Prim.Native.Nat.{ℕ, zero, suc, _+_, _*_, _^_, _<_, _≤_}
+use mathlib.Core.Path.{_≡_, refl, sym, ap, subst, _∙_}
+use mathlib.Core.Logic.{⊎-elim}
 use mathlib.Core.Bool.{true, false}
 use mathlib.Core.List.{List, [], _∷_, _++_, append-assoc, append-nil}
 use native.Mathlib.Nat.{add-zero}
@@ -17,10 +17,12 @@ use Rattle.rules.specs.declared.Parsed.{Parsed}
 use Rattle.rules.specs.declared.Listed.{Listed}
 use Rattle.rules.specs.declared.RowRead.{RowRead}
 use Rattle.rules.specs.Table.{rowOf, rowWordsOf, rowWords}
-use Rattle.rules.specs.Text.{litsText, rowText, rowsText, lineFeed, rowLines, mostDigits}
+use Rattle.rules.specs.Text.{litsText, rowText, rowsText, lineFeed}
+use Rattle.rules.specs.Reader.{rowLines}
 use Rattle.rules.specs.Reader.{stands, numberLine, litsLine, rowAt, RowsRead, rows, brokenAt, inFront, rowsAt}
 use Rattle.text_laws.specs.Pieces.{lineText, listText}
 use Rattle.text_laws.specs.Keys.{weightKey, litsKey}
+use Rattle.text_laws.specs.Lines.{RowHeld}
 use Rattle.text_laws.proofs.Pieces.{row-text}
 use Rattle.text_laws.proofs.RowWords.{row-words, row-front, row-past, row-drop}
 use Rattle.text_laws.proofs.Stands.{stands-none, first-stands, second-stands, both-stand}
@@ -34,19 +36,31 @@ use Rattle.text_laws.proofs.ListsFound.{lits-spelt}
 list-end : (at : ℕ) (l : Lits) → at + length (listText l) ≡ at + length litsKey + length (litsText mostVariables l ++ (lineFeed ∷ []))
 list-end at l = rw (length-append litsKey (litsText mostVariables l ++ (lineFeed ∷ []))) (omega arith)
 
-list-reads : (s : List ℕ) (at : ℕ) (l : Lits) → l .positive < 2 ^ mostVariables → l .negative < 2 ^ mostVariables → bitAnd (l .positive) (l .negative) ≡ 0
+pub list-reads : (s : List ℕ) (at : ℕ) (l : Lits) → l .positive < 2 ^ mostVariables → l .negative < 2 ^ mostVariables → bitAnd (l .positive) (l .negative) ≡ 0
     → stands s at (listText l) ≡ true → litsLine s at ≡ Listed.Literals l (at + length (listText l))
 list-reads s at l p n a e =
     let rest = litsText mostVariables l ++ (lineFeed ∷ []) in
     line-of-lits s at (first-stands s at litsKey rest e) ∙ lits-read s (at + length litsKey) l p n a (second-stands s at litsKey rest e) ∙ rw (list-end at l)
 
-list-found : (s : List ℕ) (at : ℕ) (l : Lits) (next : ℕ) → litsLine s at ≡ Listed.Literals l next
-    → (stands s at (listText l) ≡ true) × (next ≡ at + length (listText l))
+pub record ListHeld (s : List ℕ) (at : ℕ) (l : Lits) (next : ℕ) : Type 0 where
+  pub stand : stands s at (listText l) ≡ true
+  pub end : next ≡ at + length (listText l)
+  pub positive : l .positive < 2 ^ mostVariables
+  pub negative : l .negative < 2 ^ mostVariables
+  pub both : bitAnd (l .positive) (l .negative) ≡ 0
+
+pub list-found : (s : List ℕ) (at : ℕ) (l : Lits) (next : ℕ) → litsLine s at ≡ Listed.Literals l next → ListHeld s at l next
 list-found s at l next e =
     ⊎-elim
     (λ (t : stands s at litsKey ≡ true).
     let f = lits-spelt s (at + length litsKey) l next (sym (line-of-lits s at t) ∙ e) in
-    (both-stand s at litsKey (litsText mostVariables l ++ (lineFeed ∷ [])) t (f .stand), f .end ∙ sym (list-end at l)))
+    record {
+      stand = both-stand s at litsKey (litsText mostVariables l ++ (lineFeed ∷ [])) t (f .stand);
+      end = f .end ∙ sym (list-end at l);
+      positive = f .positive;
+      negative = f .negative;
+      both = f .both;
+    })
     (λ (t : stands s at litsKey ≡ false).
     let b = line-no-lits s at t in
     impossible (cc))
@@ -54,14 +68,7 @@ list-found s at l next e =
 
 -- ---- a row
 
--- what a row must be to be read back
-pub record Written (row : Row) : Type 0 where
-  pub positive : row .lits .positive < 2 ^ mostVariables
-  pub negative : row .lits .negative < 2 ^ mostVariables
-  pub apart : bitAnd (row .lits .positive) (row .lits .negative) ≡ 0
-  pub light : row .weight < 10 ^ mostDigits
-
-pub row-reads : (s : List ℕ) (at ln : ℕ) (row : Row) → Written row → stands s at (rowText row) ≡ true
+pub row-reads : (s : List ℕ) (at ln : ℕ) (row : Row) → RowHeld row → stands s at (rowText row) ≡ true
     → rowAt s at ln ≡ RowRead.Lines row (at + length (rowText row))
 row-reads s at ln row w e =
     let one = lineText weightKey (row .weight) in
@@ -72,12 +79,14 @@ row-reads s at ln row w e =
     row-is s at ln (row .weight) (at + length one) (row .lits) (at + length one + length two) weight lits
     ∙ ap (RowRead.Lines row) (let z : at + length one + length two ≡ at + length (rowText row) = rw (row-text row, length-append one two) (omega arith) in z)
 
-pub row-found : (s : List ℕ) (at ln : ℕ) (row : Row) (next : ℕ) → rowAt s at ln ≡ RowRead.Lines row next
-    → (stands s at (rowText row) ≡ true) × (next ≡ at + length (rowText row))
+-- a row that is read: it stands there, and the form holds it
+abbrev Standing : List ℕ → ℕ → Row → ℕ → Type 0
+Standing s at row next = (stands s at (rowText row) ≡ true) × (next ≡ at + length (rowText row)) × RowHeld row
+
+pub row-found : (s : List ℕ) (at ln : ℕ) (row : Row) (next : ℕ) → rowAt s at ln ≡ RowRead.Lines row next → Standing s at row next
 row-found s at ln row next e = weighed (numberLine s at weightKey) refl
   where
-    listed : (w m : ℕ) → numberLine s at weightKey ≡ Parsed.Number w m → (r : Listed) → litsLine s m ≡ r
-        → (stands s at (rowText row) ≡ true) × (next ≡ at + length (rowText row))
+    listed : (w m : ℕ) → numberLine s at weightKey ≡ Parsed.Number w m → (r : Listed) → litsLine s m ≡ r → Standing s at row next
     listed w m p Listed.Broken q =
         let b = row-no-lits s at ln w m p q in
         impossible (cc)
@@ -88,12 +97,14 @@ row-found s at ln row next e = weighed (numberLine s at weightKey) refl
         let f = line-found s at weightKey w m p in
         let g = list-found s m l end q in
         let one = lineText weightKey w in
-        let two : stands s (at + length one) (listText l) ≡ true = rw (← f .end) (g .0) in
+        let two : stands s (at + length one) (listText l) ≡ true = rw (← f .end) (g .stand) in
+        let held : RowHeld (record { lits = l; weight = w }) =
+        record { positive = g .positive; negative = g .negative; apart = g .both; light = f .small } in
         rw (← wl, ← en)
         (rw (row-text (record { lits = l; weight = w }))
-        (both-stand s at one (listText l) (f .stand) two, g .1 ∙ rw (f .end, length-append one (listText l)) (omega arith)))
+        (both-stand s at one (listText l) (f .stand) two, g .end ∙ rw (f .end, length-append one (listText l)) (omega arith), held))
 
-    weighed : (r : Parsed) → numberLine s at weightKey ≡ r → (stands s at (rowText row) ≡ true) × (next ≡ at + length (rowText row))
+    weighed : (r : Parsed) → numberLine s at weightKey ≡ r → Standing s at row next
     weighed Parsed.Broken p =
         let b = row-no-weight s at ln p in
         impossible (cc)
@@ -101,7 +112,7 @@ row-found s at ln row next e = weighed (numberLine s at weightKey) refl
 
 -- ---- the rows of a table from row i on
 
-rowsFrom : ℕ → ℕ → List ℕ → List ℕ
+unfoldable pub rowsFrom : ℕ → ℕ → List ℕ → List ℕ
 rowsFrom zero i table = []
 rowsFrom (suc d) i table = rowText (rowOf table i) ++ rowsFrom d (suc i) table
 
@@ -116,7 +127,7 @@ rows-split table (suc d) i =
     let p : i + suc d ≡ suc i + d = omega arith in
     rw p (rows-split table d (suc i) ∙ append-assoc (rowsText table i) (rowText (rowOf table i)) (rowsFrom d (suc i) table))
 
-rows-all : (table : List ℕ) (m : ℕ) → rowsText table m ≡ rowsFrom m 0 table
+pub rows-all : (table : List ℕ) (m : ℕ) → rowsText table m ≡ rowsFrom m 0 table
 unfolding rowsText
 rows-all table m = let p : m ≡ 0 + m = omega arith in ap (rowsText table) p ∙ rows-split table m 0
 
@@ -132,7 +143,7 @@ words-all : (m : ℕ) (table : List ℕ) → length table ≡ rowWords * m → w
 words-all m table e = words-drop m 0 table (omega arith)
 
 -- rows that are read one by one
-rows-read : (d : ℕ) (s : List ℕ) (at ln i : ℕ) (table : List ℕ) → ((j : ℕ) → i ≤ j → j < i + d → Written (rowOf table j))
+rows-read : (d : ℕ) (s : List ℕ) (at ln i : ℕ) (table : List ℕ) → ((j : ℕ) → i ≤ j → j < i + d → RowHeld (rowOf table j))
     → stands s at (rowsFrom d i table) ≡ true → rowsAt d s at ln ≡ rows (wordsFrom d i table) (at + length (rowsFrom d i table))
 unfolding rowsFrom wordsFrom rowsAt
 rows-read zero s at ln i table w e = rw (add-zero at)
@@ -146,24 +157,39 @@ rows-read (suc d) s at ln i table w e =
 -- ---- rows that are found
 
 -- past its first row, words have the rows of what is left
-rows-shift : (d : ℕ) (row : Row) (more : List ℕ) (i : ℕ) → rowsFrom d (suc i) (rowWordsOf row ++ more) ≡ rowsFrom d i more
+pub rows-shift : (d : ℕ) (row : Row) (more : List ℕ) (i : ℕ) → rowsFrom d (suc i) (rowWordsOf row ++ more) ≡ rowsFrom d i more
 unfolding rowsFrom rowOf
 rows-shift zero row more i = refl
 rows-shift (suc d) row more i =
     let next : rowWords * suc i ≡ rowWords + rowWords * i = omega arith in
     rw (next, row-past row more (rowWords * i), rows-shift d row more (suc i))
 
-first-row : (row : Row) (more : List ℕ) → rowOf (rowWordsOf row ++ more) 0 ≡ row
+pub first-row : (row : Row) (more : List ℕ) → rowOf (rowWordsOf row ++ more) 0 ≡ row
 unfolding rowOf
 first-row row more = row-front row more
+
+later-row : (row : Row) (more : List ℕ) (i : ℕ) → rowOf (rowWordsOf row ++ more) (suc i) ≡ rowOf more i
+unfolding rowOf
+later-row row more i =
+    let next : rowWords * suc i ≡ rowWords + rowWords * i = omega arith in
+    rw (next, row-past row more (rowWords * i))
+
+-- what holds of each row
+pub each-more : (P : Row → Type 0) (d : ℕ) (row : Row) (more : List ℕ) → P row → ((i : ℕ) → i < d → P (rowOf more i))
+    → (i : ℕ) → i < suc d → P (rowOf (rowWordsOf row ++ more) i)
+each-more P d row more p ps zero l = subst P (sym (first-row row more)) p
+each-more P d row more p ps (suc i) l = subst P (sym (later-row row more i)) (ps i (omega arith))
 
 pub record RowsFound (d : ℕ) (s : List ℕ) (at : ℕ) (words : List ℕ) (next : ℕ) : Type 0 where
   pub long : length words ≡ rowWords * d
   pub stand : stands s at (rowsText words d) ≡ true
   pub end : next ≡ at + length (rowsText words d)
+  pub held : (i : ℕ) → i < d → RowHeld (rowOf words i)
 
 Run : ℕ → List ℕ → ℕ → List ℕ → ℕ → Type 0
-Run d s at words next = (length words ≡ rowWords * d) × (stands s at (rowsFrom d 0 words) ≡ true) × (next ≡ at + length (rowsFrom d 0 words))
+Run d s at words next =
+    (length words ≡ rowWords * d) × (stands s at (rowsFrom d 0 words) ≡ true) × (next ≡ at + length (rowsFrom d 0 words))
+    × ((i : ℕ) → i < d → RowHeld (rowOf words i))
 
 run-more : (d : ℕ) (s : List ℕ) (at ln : ℕ) (row : Row) (mid : ℕ) (more : List ℕ) (next : ℕ) → rowAt s at ln ≡ RowRead.Lines row mid
     → Run d s mid more next → Run (suc d) s at (rowWordsOf row ++ more) next
@@ -174,15 +200,19 @@ run-more d s at ln row mid more next e w =
     let rest = rowsFrom d 0 more in
     let whole : rowsFrom (suc d) 0 (rowWordsOf row ++ more) ≡ text ++ rest = rw (first-row row more, rows-shift d row more 0) in
     let there : stands s (at + length text) rest ≡ true = rw (← f .1) (w .1) in
-    let end : next ≡ at + length (text ++ rest) = w .2 ∙ rw (f .1, length-append text rest) (omega arith) in
-    (rw (length-append (rowWordsOf row) more, row-words row) (omega (arith, w .0)), rw whole (both-stand s at text rest (f .0) there), rw whole end)
+    let end : next ≡ at + length (text ++ rest) = w .2 ∙ rw (f .1, length-append text rest) (omega arith) in (
+      rw (length-append (rowWordsOf row) more, row-words row) (omega (arith, w .0)),
+      rw whole (both-stand s at text rest (f .0) there),
+      rw whole end,
+      each-more RowHeld d row more (f .2) (w .3),
+    )
 
 runs : (d : ℕ) (s : List ℕ) (at ln : ℕ) (words : List ℕ) (next : ℕ) → rowsAt d s at ln ≡ rows words next → Run d s at words next
 unfolding rowsAt Run rowsFrom
 runs zero s at ln words next e =
     let w : [] ≡ words = cc in
     let n : at ≡ next = cc in
-    rw (← w, ← n) (omega arith, stands-none s at, sym (add-zero at))
+    rw (← w, ← n) (omega arith, stands-none s at, sym (add-zero at), λ i l. absurd (omega arith))
 runs (suc d) s at ln words next e = on-row (rowAt s at ln) refl (λ mid more end. runs d s mid (ln + rowLines) more end)
   where
     behind-row : (row : Row) (mid : ℕ) → rowAt s at ln ≡ RowRead.Lines row mid → (r : RowsRead) → rowsAt d s mid (ln + rowLines) ≡ r
@@ -207,7 +237,7 @@ runs (suc d) s at ln words next e = on-row (rowAt s at ln) refl (λ mid more end
 
 -- ---- the rows' two laws
 
-pub rows-read-back : (m : ℕ) (s : List ℕ) (at ln : ℕ) (table : List ℕ) → length table ≡ rowWords * m → ((j : ℕ) → j < m → Written (rowOf table j))
+pub rows-read-back : (m : ℕ) (s : List ℕ) (at ln : ℕ) (table : List ℕ) → length table ≡ rowWords * m → ((j : ℕ) → j < m → RowHeld (rowOf table j))
     → stands s at (rowsText table m) ≡ true → rowsAt m s at ln ≡ rows table (at + length (rowsText table m))
 rows-read-back m s at ln table l w e =
     let all = rows-all table m in
@@ -218,4 +248,4 @@ unfolding Run
 rows-found m s at ln words next e =
     let w = runs m s at ln words next e in
     let all = rows-all words m in
-    record { long = w .0; stand = rw all (w .1); end = rw all (w .2) }
+    record { long = w .0; stand = rw all (w .1); end = rw all (w .2); held = w .3 }

@@ -1,6 +1,6 @@
 -- A key stored byte by byte: what is left of it, stored behind what is, comes to the whole key stored. Where nothing is left, nothing
 -- more is stored.
-use Prim.Native.Nat.{ℕ, suc, _+_, _-_, _<_, _≤_}
+use Prim.Native.Nat.{ℕ, suc, _+_, _<_, _≤_}
 use mathlib.Core.Path.{_≡_}
 use mathlib.Core.List.{List}
 use native.Mathlib.Numerals.{add-one}

@@ -2,6 +2,9 @@
 use Prim.Native.Nat.{ℕ}
 use mathlib.Core.List.{List, [], _∷_}
 
+abbrev pub equalSign : ℕ
+equalSign = 61
+
 abbrev pub varsKey : List ℕ
 varsKey = 118 ∷ 97 ∷ 114 ∷ 115 ∷ 61 ∷ []
 

@@ -2,3 +2,4 @@ pub mod Keys
 pub mod Pieces
 pub mod Lengths
 pub mod Ends
+pub mod Lines

@@ -1,6 +1,6 @@
 // How far a walk has come: at its start, after a node, and as an answer.
 ghost use mathlib.Core.Path.{_≡_};
-ghost use Prim.Native.Nat.{_+_, _≤_, _<_, _^_};
+ghost use Prim.Native.Nat.{_+_, _<_, _^_};
 ghost use Rattle.rules.specs.Desk.{weightOn};
 ghost use Rattle.rules.specs.Walk.{visited, keptAt, halted, atStart, statusOf, bestOf, foundBy};
 ghost use Rattle.bound.specs.Units.{Readable};

@@ -5,7 +5,7 @@ use Prim.Native.Nat.{ℕ, suc, _+_, _^_, _≤_, _<_}
 use mathlib.Core.Path.{_≡_, refl, sym, ap, _∙_, subst}
 use mathlib.Core.List.{List, List·Memᴰ, List·Memᴰ·head, Memᴰ·append-right}
 use mathlib.Core.Bool.{Bool, true, false}
-use mathlib.Core.Logic.{_⊎_, _↔_, ⊎-elim}
+use mathlib.Core.Logic.{_↔_, ⊎-elim}
 use native.Mathlib.Omega.{arith}
 use lib.ListN.{length}
 use Rattle.masks.proofs.Choice.{cases, clash}
@@ -14,7 +14,8 @@ use Rattle.rules.specs.declared.Walked.{Walked}
 use Rattle.rules.specs.Desk.{variables, decided, truths, wellFormed, weightOn, decisions, keeps}
 use Rattle.rules.specs.Bound.{lost, bound}
 use Rattle.rules.specs.Walk.{undecided, atStart, walkOf}
-use Rattle.walk_laws.specs.Scan.{leaves, Chosen, chosen, scan, met, Least, Reached, WithinBudget}
+use Rattle.walk_laws.specs.Scan.{Chosen, chosen, scan, Least, Reached, WithinBudget}
+use Rattle.walk_laws.specs.Leaves.{leaves, met}
 use Rattle.walk_laws.specs.Sound.{Sound, Node}
 use Rattle.walk_laws.proofs.Scans.{scan-outcome}
 use Rattle.walk_laws.proofs.Walks.{leaf-below}

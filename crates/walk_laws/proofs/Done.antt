@@ -18,7 +18,8 @@ use Rattle.rules.specs.declared.Walked.{Walked}
 use Rattle.rules.specs.Desk.{variables, decided, truths, wellFormed, weightOn, decisions, deskWeighs, keeps}
 use Rattle.rules.specs.Bound.{lost, bound}
 use Rattle.rules.specs.Walk.{undecided, atStart, walkOf, priceOf, triedFirst, walkIn}
-use Rattle.walk_laws.specs.Scan.{leaves, Chosen, chosen, scan, Least}
+use Rattle.walk_laws.specs.Scan.{Chosen, chosen, scan, Least}
+use Rattle.walk_laws.specs.Leaves.{leaves}
 use Rattle.walk_laws.specs.Sound.{Below, Sound, Node}
 use Rattle.walk_laws.specs.Order.{Before, Earlier}
 use Rattle.walk_laws.specs.Right.{Right, NoneBelow}

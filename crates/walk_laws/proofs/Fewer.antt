@@ -11,7 +11,8 @@ use Rattle.masks.proofs.Choice.{lt-or-le, clash}
 use Rattle.rules.specs.declared.Part.{Part}
 use Rattle.rules.specs.declared.Walked.{Walked}
 use Rattle.rules.specs.Walk.{fixed, visited, keptAt, halted, walk}
-use Rattle.walk_laws.specs.Scan.{leaves, Chosen, chosen, scan}
+use Rattle.walk_laws.specs.Scan.{Chosen, chosen, scan}
+use Rattle.walk_laws.specs.Leaves.{leaves}
 use Rattle.walk_laws.specs.Sound.{Sound}
 use Rattle.walk_laws.proofs.Branches.{walk-cut, walk-leaf, walk-branches}
 use Rattle.walk_laws.proofs.Walks.{entered, was-running, finished}

@@ -13,3 +13,4 @@ pub mod Orders
 pub mod Done
 pub mod Budgets
 pub mod Answers
+pub mod Alike

@@ -13,7 +13,8 @@ use Rattle.masks.proofs.Choice.{cases, clash}
 use Rattle.rules.specs.declared.Part.{Part}
 use Rattle.rules.specs.declared.Walked.{Walked}
 use Rattle.rules.specs.Walk.{fixed, visited, keptAt, halted, entering, walk}
-use Rattle.walk_laws.specs.Scan.{leaves, Chosen, chosen, scan, met, WithinBudget}
+use Rattle.walk_laws.specs.Scan.{Chosen, chosen, scan, WithinBudget}
+use Rattle.walk_laws.specs.Leaves.{leaves, met}
 use Rattle.walk_laws.specs.Sound.{Sound}
 use Rattle.walk_laws.proofs.Scans.{scan-none, scan-one, scan-append, scan-ext, take-taken, scan-best, scan-kept}
 use Rattle.walk_laws.proofs.Walks.{leaf-below, below-node, was-running}

@@ -12,7 +12,7 @@ use Rattle.masks.proofs.Choice.{lt-or-le, eq-or-ne, clash}
 use Rattle.masks.proofs.Bits.{has-and}
 use Rattle.rules.specs.declared.Part.{Part}
 use Rattle.rules.specs.Walk.{fixed}
-use Rattle.walk_laws.specs.Scan.{leaves}
+use Rattle.walk_laws.specs.Leaves.{leaves}
 use Rattle.walk_laws.specs.Sound.{Extends, Node}
 use Rattle.walk_laws.specs.Order.{Before, Earlier, headed, behind}
 use Rattle.walk_laws.proofs.Walks.{leaf-below}

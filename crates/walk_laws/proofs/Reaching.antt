@@ -13,7 +13,8 @@ use Rattle.masks.proofs.Choice.{cases, clash}
 use Rattle.rules.specs.declared.Part.{Part}
 use Rattle.rules.specs.declared.Walked.{Walked}
 use Rattle.rules.specs.Walk.{fixed, visited, keptAt, halted, walk}
-use Rattle.walk_laws.specs.Scan.{leaves, Chosen, chosen, scan, Reached, WithinBudget}
+use Rattle.walk_laws.specs.Scan.{Chosen, chosen, scan, Reached, WithinBudget}
+use Rattle.walk_laws.specs.Leaves.{leaves}
 use Rattle.walk_laws.specs.Sound.{Sound}
 use Rattle.walk_laws.proofs.Scans.{take-passed, take-taken, scan-none, scan-one, scan-append, scan-passed}
 use Rattle.walk_laws.proofs.Branches.{walk-refused, walk-branches}

@@ -5,7 +5,7 @@ use Prim.Native.Nat.{ℕ, _≤_, _<_}
 use mathlib.Core.Path.{_≡_, refl, sym, ap, _∙_, subst}
 use mathlib.Core.List.{List, [], _∷_, List·Memᴰ, List·Memᴰ·append-cases, List·Memᴰ·eq-of-singleton, Memᴰ·append-left, Memᴰ·append-right, List·Memᴰ·head}
 use mathlib.Core.Bool.{Bool, true, false, cond, not}
-use mathlib.Core.Logic.{_⊎_, ⊎-elim}
+use mathlib.Core.Logic.{⊎-elim}
 use native.Mathlib.Omega.{arith}
 use borrow.Author.Tests.{leb-true, leb-false, ltb-true, ltb-false}
 use lib.Dec.{leb, ltb}
@@ -13,7 +13,8 @@ use Rattle.masks.proofs.Choice.{cases, clash, cond-elim}
 use Rattle.rules.specs.declared.Part.{Part}
 use Rattle.rules.specs.declared.Walked.{Walked}
 use Rattle.rules.specs.Walk.{fixed, visited, keptAt, halted, entering, walk}
-use Rattle.walk_laws.specs.Scan.{leaves, chosen, scan}
+use Rattle.walk_laws.specs.Scan.{chosen, scan}
+use Rattle.walk_laws.specs.Leaves.{leaves}
 use Rattle.walk_laws.specs.Sound.{Below, here, there, Sound}
 use Rattle.walk_laws.proofs.Scans.{take-passed, take-taken, scan-one, scan-append, scan-passed}
 

@@ -1,3 +1,4 @@
+pub mod Leaves
 pub mod Scan
 pub mod Sound
 pub mod Order

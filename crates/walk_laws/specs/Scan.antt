@@ -1,19 +1,12 @@
--- What a walk is measured by: all leaves below a node, in the walk's order, a scan of leaves, which looks at each and cuts none, and the
--- leaves that a walk meets within its budget. All are over any bound, any weight and any value tried first.
+-- What a walk is measured by: a scan of leaves, which looks at each and cuts none. All is over any bound, any weight and any value tried first.
 use Prim.Native.Nat.{ℕ, _≤_, _<_}
 use mathlib.Core.Path.{_≡_}
 use mathlib.Core.List.{List, [], _∷_, _++_, List·Memᴰ}
-use mathlib.Core.Bool.{Bool, true, false, cond, not}
-use lib.Dec.{leb, ltb}
+use mathlib.Core.Bool.{Bool, true, false, cond}
+use lib.Dec.{leb}
 use lib.ListN.{length}
 use Rattle.rules.specs.declared.Part.{Part}
 use Rattle.rules.specs.declared.Walked.{Walked}
-use Rattle.rules.specs.Walk.{fixed, visited, walk}
-
--- all full readings below a node whose variables left are vs: the value tried first, then the other
-unfoldable pub leaves : (ℕ → Bool) → List ℕ → Part → List Part
-leaves first [] p = p ∷ []
-leaves first (v ∷ vs) p = leaves first vs (fixed p v (first v)) ++ leaves first vs (fixed p v (not (first v)))
 
 -- the best weight so far, whether a reading is kept, and which
 pub record Chosen : Type 0 where
@@ -42,16 +35,6 @@ pub record Least (weight : Part → ℕ) (qs : List Part) (best : ℕ) (c : Chos
   pub less : weight leaf < best
   pub inFront : (q : Part) → List·Memᴰ q front → weight leaf < weight q
   pub behind : (q : Part) → List·Memᴰ q rest → weight leaf ≤ weight q
-
--- the leaves that the walk visits and does not cut before its budget is used up, in order
-unfoldable pub met : (Part → ℕ) → (ℕ → Bool) → ℕ → List ℕ → Part → Walked → List Part
-met bound first budget [] p s = cond (ltb (s .nodes) budget) (cond (leb (s .best) (bound p)) [] (p ∷ [])) []
-met bound first budget (v ∷ vs) p s =
-    let other = walk bound first budget vs (fixed p v (first v)) (visited s) in
-    let one = met bound first budget vs (fixed p v (first v)) (visited s) in
-    let two = met bound first budget vs (fixed p v (not (first v))) other in
-    let both = one ++ two in
-    cond (ltb (s .nodes) budget) (cond (leb (s .best) (bound p)) [] both) []
 
 -- How far a walk has come, from what was chosen before it: of all leaves it has seen, or cut, the front ones, and what it has chosen is the
 -- best of these. Where it is not stopped these are all leaves; where it is, those below the node that was due are left at least.

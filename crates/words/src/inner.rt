@@ -1,19 +1,20 @@
 // Rows and entries of a desk, read and written where the caller has seen that they lie within the lent words.
 ghost use mathlib.Core.Path.{_≡_};
 ghost use Prim.Native.Nat.{ℕ, _+_, _*_, _≤_, _<_};
-ghost use lib.ListN.{length, getD, set};
+ghost use lib.ListN.{length, getD};
 ghost use lib.Seq.{sets};
 ghost use Rattle.masks.specs.Words.{zeroed};
 ghost use Rattle.rules.specs.Table.{rowIn, rowWords, rowWordsOf};
 ghost use Rattle.rules.specs.Desk.{headWords, entryWords, rowPlace, rowOn, setRow, setWeight};
 ghost use Rattle.rules.specs.Decide.{entered};
 ghost use Rattle.rules.specs.TakeBack.{lastPlace, lastNamed, withdrawn};
-ghost use Rattle.rules.specs.Rewrite.{mostNamed};
+ghost use Rattle.rules.specs.Steps.{mostNamed};
 ghost use Rattle.words.specs.Room.{EntryLeft, StepStands};
 use literals::Lits;
 use rules::Desk;
 use rules::Entry;
 use rules::Row;
+use values::with_weight;
 
 // The row whose words begin at a place.
 pub fn row_in(words: &[u64], at: usize) -> Row
@@ -57,7 +58,7 @@ pub fn set_weight(desk: &mut [u64], i: usize, w: u64)
     requires { ⌜ headWords + rowWords * (i + 1) ≤ length (now desk) ⌝ }
     ensures { λ _. ⌜ now (desk .exit) ≡ setWeight (now (desk .entry)) i w ⌝ }
 {
-    let row = row_on(desk, i).with_weight(w);
+    let row = with_weight(row_on(desk, i), w);
     set_row(desk, i, row);
 }
 

@@ -1,5 +1,5 @@
 -- `take_back` meets its contract: a refusal leaves the words as found.
-use mathlib.Core.Path.{_≡_, sym, ap, _∙_}
+use mathlib.Core.Path.{sym, _∙_}
 use Rattle.rules.specs.TakeBack.{takeBackWhy, takeBackStep, takeBackDesk}
 use Rattle.rules.proofs.Judging.{words-fine, words-refused}
 use borrow.Author.Needs.{needs}

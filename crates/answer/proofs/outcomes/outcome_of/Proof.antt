@@ -1,14 +1,16 @@
 -- `outcome_of` meets its contract: too long, not read, or searched. A text that is read keeps its figures within their limits, and its
--- words stand at the front of the table.
-use Prim.Native.Nat.{ℕ, _*_}
-use mathlib.Core.Path.{refl, ap, _∙_}
+-- words stand behind those of the head.
+use Prim.Native.Nat.{ℕ, _+_, _*_}
+use mathlib.Core.Path.{_≡_, refl, sym, ap, _∙_}
+use mathlib.Core.List.{[], _++_, append-nil}
 use native.Mathlib.Omega.{arith}
 use borrow.Author.Needs.{needs}
-use lib.ListN.{take, replicate, length-take}
+use lib.ListN.{length, take, replicate}
 use Rattle.rules.specs.Table.{rowWords, mostRows}
+use Rattle.rules.specs.Desk.{headWords}
 use Rattle.text_laws.proofs.Matched.{matched}
 use Rattle.text_laws.proofs.Found.{ReadFine, read-fine, front-words}
-use Rattle.answer.proofs.Answering.{too-long, not-read, read}
+use Rattle.answer.proofs.Answering.{behind-head, length-behind, too-long, not-read, read}
 use Rattle.answer.proofs.outcomes.outcome_of.Statement.{statement}
 use Rattle.answer.proofs.outcomes.outcome_of.Tie as tie
 
@@ -20,8 +22,14 @@ returns c =
     let says = c .refused .ensures in
     record { counted = says .counted; lines = says .lines ∙ too-long (c .before .before .before .args .input .now) (c .before .if1 .taken) }
 
-slice-aggregate-read : tie.Need-slice-aggregate-read
-slice-aggregate-read c = search needs
+sub-read : tie.Need-sub-read
+sub-read c = search needs
+
+part-words-start : tie.Need-part-words-start
+part-words-start c = search needs
+
+part-words-end : tie.Need-part-words-end
+part-words-end c = search needs
 
 read-requires : tie.Need-read-requires
 read-requires c κs = search needs
@@ -44,18 +52,30 @@ fine c = read-fine _ _ _ _ _ (matched (c .before .before .before .before .read .
 mul-n : tie.Need-mul-n
 mul-n c = omega (arith, fine c .few)
 
-cast-search-table : tie.Need-cast-search-table
-cast-search-table c = omega (arith, fine c .budget)
+add-n : tie.Need-add-n
+add-n c = omega (arith, fine c .few)
 
-array-share-prefix-table : tie.Need-array-share-prefix-table
-array-share-prefix-table c = omega (arith, fine c .few, c .before .before .before .before .read .kept .1 .0)
+cast-search-rows : tie.Need-cast-search-rows
+cast-search-rows c = omega (arith, fine c .budget)
 
-slice-aggregate-search-table : tie.Need-slice-aggregate-search-table
-slice-aggregate-search-table c =
-    simp length-take (omega (arith, fine (c .before) .few, c .before .before .before .before .before .read .kept .1 .0))
+array-borrow-prefix-words : tie.Need-array-borrow-prefix-words
+array-borrow-prefix-words c =
+    let call = c .before .before .before .before in
+    omega (arith, fine c .few, call .read .kept .1 .0, ap length (append-nil (call .read .last .1 .0)))
 
-search-table-requires : tie.Need-search-table-requires
-search-table-requires c κs = (fine (c .before) .variables, fine (c .before) .few)
+-- head and rows
+lengths : (c : tie.After-words3) → let words = c .before .before .before .before .before .read .last .1 .0 in
+    let rows = c .before .before .variables .given .0 .1 .1 .0 in
+    length (take (headWords + rowWords * rows) (replicate {A = ℕ} headWords 0 ++ (words ++ []))) ≡ headWords + rowWords * rows
+lengths c =
+    length-behind (rowWords * c .before .before .variables .given .0 .1 .1 .0) (c .before .before .before .before .before .read .last .1 .0)
+    (omega (arith, fine (c .before) .few, c .before .before .before .before .before .read .kept .1 .0))
+
+slice-aggregate-search-rows : tie.Need-slice-aggregate-search-rows
+slice-aggregate-search-rows c = sym (lengths c)
+
+search-rows-requires : tie.Need-search-rows-requires
+search-rows-requires c κs = (fine (c .before) .variables, lengths c)
 
 returns-2 : tie.Need-returns-2
 returns-2 c =
@@ -68,15 +88,16 @@ returns-2 c =
 
 returns-3 : tie.Need-returns-3
 returns-3 c =
-    let says = c .search-table .ensures in
-    let found = c .before .before .before in
+    let says = c .before .search-rows .ensures in
+    let found = c .before .before .before .before in
     let call = found .before .before .before in
     let short = call .before .before in
     let input = short .before .before .args .input .now in
     let told = matched (call .read .ensures .0) (found .variables .given .1) in
     let table = replicate {A = ℕ} (rowWords * mostRows) 0 in
     let rows = found .variables .given .0 .1 .1 .0 in
-    let words = ap (take (rowWords * rows)) (call .read .ensures .1) ∙ front-words input table _ _ _ told in
+    let stored = ap (take (rowWords * rows)) (call .read .ensures .1) ∙ front-words input table _ _ _ told in
+    let words = behind-head (rowWords * rows) _ ∙ stored in
     record { counted = says .counted; lines = says .lines ∙ read input (short .if1 .left) _ _ _ _ _ refl told words }
 
 pub outcome-of-spec : {M : Type 1} → statement M
@@ -85,15 +106,18 @@ outcome-of-spec =
     (tie.spec
     refused-requires
     returns
-    slice-aggregate-read
+    sub-read
+    part-words-start
+    part-words-end
     read-requires
     enum-known-why
     refused-requires-2
     enum-known-variables
     mul-n
-    cast-search-table
-    array-share-prefix-table
-    slice-aggregate-search-table
-    search-table-requires
+    add-n
+    cast-search-rows
+    array-borrow-prefix-words
+    slice-aggregate-search-rows
+    search-rows-requires
     returns-2
     returns-3)

@@ -8,11 +8,8 @@ use Rattle.answer_lines.proofs.Written.{refusal-is}
 use Rattle.answer_lines.proofs.inner.put_refusal.Statement.{statement}
 use Rattle.answer_lines.proofs.inner.put_refusal.Tie as tie
 
-number-requires : tie.Need-number-requires
-number-requires c κs = search needs
-
-place-requires : tie.Need-place-requires
-place-requires c κs = search needs
+numbered-requires : tie.Need-numbered-requires
+numbered-requires c κs = search needs
 
 slice-aggregate-put-key : tie.Need-slice-aggregate-put-key
 slice-aggregate-put-key c = search needs
@@ -33,8 +30,8 @@ put-number-line-requires-2 : tie.Need-put-number-line-requires-2
 put-number-line-requires-2 c κs =
     let second = c .before .before .before .before in
     let first = second .before .before .before .before .before in
-    let number = first .before .before .before .before .number in
-    omega (arith, second .put-number-line .ensures .place, first .put-key .ensures .place, line-length numberKey (number .result))
+    let told = first .before .before .before .numbered in
+    omega (arith, second .put-number-line .ensures .place, first .put-key .ensures .place, line-length numberKey (told .result .0))
 
 same-length : tie.Need-same-length
 same-length c = search needs
@@ -44,18 +41,16 @@ returns c =
     let third = c .before .before in
     let second = third .before .before .before .before .before in
     let first = second .before .before .before .before .before in
-    let place = first .before .before .before in
-    let number = place .before in
-    let why = number .before .before .args .why in
-    rw (refusal-is why (number .number .result) (place .place .result) (number .number .ensures) (place .place .ensures))
+    let told = first .before .before .before in
+    let why = told .before .before .args .why in
+    rw (refusal-is why (told .numbered .result) (told .numbered .ensures))
     (stored-both (first .put-key .ensures) (stored-both (second .put-number-line .ensures) (third .put-number-line2 .ensures)))
 
 pub put-refusal-spec : {M : Type 1} → statement M
 put-refusal-spec =
     tie.close
     (tie.spec
-    number-requires
-    place-requires
+    numbered-requires
     slice-aggregate-put-key
     put-key-requires
     slice-aggregate-put-number-line

@@ -1,8 +1,5 @@
 -- `decide_step` meets its contract: the entry, then the two masks.
-use native.Mathlib.Omega.{arith}
 use lib.ListN.{length-set}
-use mathlib.Core.Path.{_≡_, ap}
-use lib.ListN.{length}
 use Rattle.rules.specs.Decide.{decideStep}
 use borrow.Author.Needs.{needs}
 use Rattle.deciding.proofs.inner.decide_step.Statement.{statement}

@@ -1,5 +1,4 @@
 -- `decision_entry` meets its contract: the words are the definition's.
-use mathlib.Core.Path.{_∙_}
 use Rattle.rules.specs.Decide.{decisionEntry}
 use Rattle.deciding.proofs.Deciding.{bool-word}
 use borrow.Author.Needs.{needs}

@@ -1,5 +1,4 @@
 -- `put_if` meets its contract: the test chooses.
-use borrow.Author.Needs.{needs}
 use Rattle.deciding.proofs.inner.put_if.Statement.{statement}
 use Rattle.deciding.proofs.inner.put_if.Tie as tie
 

@@ -1,5 +1,6 @@
 -- `in_limits` meets its contract: the code is the definition, on the head's words.
-use Rattle.rules.specs.Desk.{headOf, inLimits}
+use Rattle.rules.specs.Desk.{inLimits}
+use Rattle.rules.specs.Figures.{headOf}
 use borrow.Author.Needs.{needs}
 use Rattle.desk.proofs.formed.in_limits.Statement.{statement}
 use Rattle.desk.proofs.formed.in_limits.Tie as tie

@@ -1,6 +1,7 @@
 -- `masks_nest` meets its contract: the code is the definition, on the head's words.
 use Rattle.masks.specs.Masks.{none}
-use Rattle.rules.specs.Desk.{headOf, masksNest}
+use Rattle.rules.specs.Desk.{masksNest}
+use Rattle.rules.specs.Figures.{headOf}
 use borrow.Author.Needs.{needs}
 use Rattle.desk.proofs.formed.masks_nest.Statement.{statement}
 use Rattle.desk.proofs.formed.masks_nest.Tie as tie

@@ -1,5 +1,4 @@
 -- `reaches` meets its contract: C is compared with its limit before it is multiplied.
-use mathlib.Core.Path.{_≡_}
 use native.Mathlib.Omega.{arith}
 use borrow.Author.Tests.{le-leb, lt-leb}
 use Rattle.rules.specs.Desk.{mostCapacity, capacity, reaches, deskWords, rowPlace}

@@ -1,11 +1,10 @@
 use Prim.Native.Nat.{ℕ, _+_, _-_}
-use mathlib.Core.Path.{_≡_, ap, sym, _∙_}
+use mathlib.Core.Path.{ap, _∙_}
 use mathlib.Core.List.{List}
 use lib.ListN.{length}
 use lib.Seq.{sets, length-sets}
 use Rattle.masks.specs.Words.{zeroed}
 use Rattle.rules.specs.Table.{rowCount}
-use Rattle.desk.specs.Lay.{headFor}
 use Rattle.desk.proofs.Laid.{laid-whole}
 -- `lay` meets its contract: three runs of stores, each behind the one before it.
 use native.Mathlib.Omega.{arith}

@@ -1,5 +1,5 @@
 -- `load` meets its contract: a refusal leaves the words as found, and what is not refused has room.
-use mathlib.Core.Path.{_≡_, ap, sym, _∙_}
+use mathlib.Core.Path.{sym, _∙_}
 use Rattle.rules.specs.Desk.{loadWhy, loadStep, loadDesk}
 use Rattle.rules.proofs.Judging.{words-fine, words-refused}
 use Rattle.desk.proofs.Loading.{load-room}

@@ -1,5 +1,5 @@
 -- `load_why` meets its contract: each return has the tests that led there.
-use mathlib.Core.Path.{_≡_, sym, ap, _∙_}
+use mathlib.Core.Path.{sym, _∙_}
 use borrow.Author.Tests.{lt-ltb, le-ltb, ltb-false}
 use lib.Dec.{ltb}
 use Prim.Native.Nat.{_/_}
@@ -7,7 +7,7 @@ use lib.ListN.{length}
 use Rattle.masks.proofs.Choice.{or-right}
 use Rattle.literals.specs.Literal.{mostVariables}
 use Rattle.rules.specs.Table.{rowWords, rowCount}
-use Rattle.rules.specs.Desk.{mostCapacity, deskWords, loadWhy}
+use Rattle.rules.specs.Desk.{mostCapacity, loadWhy}
 use Rattle.tables.specs.Judge.{rowsAndSumWhy}
 use borrow.Author.Needs.{needs}
 use Rattle.desk.proofs.lay.load_why.Statement.{statement}

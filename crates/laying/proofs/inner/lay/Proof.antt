@@ -1,15 +1,7 @@
 -- `lay` meets its contract: each kind lays what it gives, and of these only a merge's rest can be empty.
-use Prim.Native.Nat.{ℕ, _+_, _-_}
-use mathlib.Core.Path.{_≡_, refl, sym, ap, _∙_, subst}
-use mathlib.Core.List.{List, [], _∷_, _++_}
 use native.Mathlib.Omega.{arith}
-use lib.ListN.{length}
-use Rattle.literals.specs.declared.Lits.{Lits}
-use Rattle.rules.specs.Rewrite.{remnantOf, gives, stored, empties, laid, compensating, fewerAdded, concedes, fewest}
-use Rattle.step_laws.proofs.ByKind.{by-kind}
-use Rattle.laying.specs.Room.{Fitting, forkRows}
-use Rattle.fitting.proofs.Counts.{two-named, four-named}
-use Rattle.laying.proofs.Fills.{room-merge, room-shift, room-chain, room-fork, gives-merge, gives-shift, gives-chain, gives-fork}
+use Rattle.remnants.proofs.Counts.{two-named, four-named}
+use Rattle.laying.proofs.Fills.{room-merge, room-shift, room-chain, room-fork, laid-merge, laid-shift, laid-chain, laid-fork}
 use borrow.Author.Needs.{needs}
 use Rattle.laying.proofs.inner.lay.Statement.{statement}
 use Rattle.laying.proofs.inner.lay.Tie as tie
@@ -25,8 +17,7 @@ same-length c = search needs
 returns : tie.Need-returns
 returns c =
     let s = c .before .before .before .before .before .before .before in
-    c .before .before .lay-merge .ensures
-    ∙ ap (laid (s .args .desk .now) (s .args .first) (s .args .w)) (gives-merge _ _ _ (c .before .before .before .before .if1 .taken))
+    laid-merge _ _ _ _ (s .pre) _ _ (c .before .before .before .before .if1 .taken) (c .before .before .lay-merge .ensures)
 
 lay-shift-requires : tie.Need-lay-shift-requires
 lay-shift-requires c κs =
@@ -39,8 +30,7 @@ same-length-2 c = search needs
 returns-2 : tie.Need-returns-2
 returns-2 c =
     let s = c .before .before .before .before .before .before .before .before in
-    c .before .before .lay-shift .ensures
-    ∙ ap (laid (s .args .desk .now) (s .args .first) (s .args .w)) (gives-shift _ _ _ _ (s .pre) (c .before .before .before .before .if2 .taken))
+    laid-shift _ _ _ _ (s .pre) _ _ (c .before .before .before .before .if2 .taken) (c .before .before .lay-shift .ensures)
 
 sub-lay-back : tie.Need-sub-lay-back
 sub-lay-back c =
@@ -58,8 +48,7 @@ same-length-3 c = search needs
 returns-3 : tie.Need-returns-3
 returns-3 c =
     let s = c .before .before .before .before .before .before .before .before .before in
-    c .before .before .lay-back .ensures
-    ∙ ap (laid (s .args .desk .now) (s .args .first) (s .args .w)) (gives-chain _ _ _ _ (s .pre) (c .before .before .before .before .if3 .taken))
+    laid-chain _ _ _ _ (s .pre) _ _ (c .before .before .before .before .if3 .taken) (c .before .before .lay-back .ensures)
 
 lay-fork-requires : tie.Need-lay-fork-requires
 lay-fork-requires c κs =
@@ -75,10 +64,8 @@ same-length-4 c = search needs
 returns-4 : tie.Need-returns-4
 returns-4 c =
     let s = c .before .before .before .before .before .before .before .before .before in
-    c .before .before .lay-fork .ensures
-    ∙ ap (laid (s .args .desk .now) (s .args .first) (s .args .w))
-    (gives-fork _ _ _ _ (s .pre) (c .before .before .before .before .before .before .if1 .left)
-    (c .before .before .before .before .before .if2 .left) (c .before .before .before .before .if3 .left))
+    laid-fork _ _ _ _ (s .pre) (c .before .before .before .before .before .before .if1 .left)
+    (c .before .before .before .before .before .if2 .left) (c .before .before .before .before .if3 .left) _ _ (c .before .before .lay-fork .ensures)
 
 pub lay-spec : {M : Type 1} → statement M
 lay-spec =

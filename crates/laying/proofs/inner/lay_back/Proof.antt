@@ -1,19 +1,18 @@
 -- `lay_back` meets its contract: after i turns the first i rows are laid, and it stands at the literal that row i fixes.
-use Prim.Native.Nat.{ℕ, _+_, _-_, _≤_, _<_}
-use mathlib.Core.Path.{_≡_, refl, sym, ap, _∙_, subst}
-use mathlib.Core.List.{List, [], _∷_, _++_}
+use Prim.Native.Nat.{ℕ, _+_, _-_, _≤_}
+use mathlib.Core.Path.{_≡_, refl, sym, ap, _∙_}
 use native.Mathlib.Omega.{arith}
 use borrow.Author.Needs.{needs}
 use lib.ListN.{length}
 use Rattle.literals.specs.declared.Lits.{Lits}
 use Rattle.literals.specs.Lits.{negatedLits, together, less}
 use Rattle.rules.specs.Table.{newRow}
-use Rattle.rules.specs.Rewrite.{remnantOf, compensating, laid}
+use Rattle.rules.specs.Rewrite.{compensating, laid}
+use Rattle.rules.specs.Steps.{remnantOf}
 use Rattle.rules.specs.Rewrite as R
 use Rattle.desk_laws.proofs.Stores.{length-set-row}
-use Rattle.step_laws.proofs.Linked.{compensating-count}
-use Rattle.fitting.proofs.Chains.{lit-first, lit-more, compensating-none, compensating-more}
-use Rattle.laying.proofs.Laying.{laid-none, laid-more, remnant-laid, lies-still}
+use Rattle.remnants.proofs.Chains.{lit-first, lit-more, compensating-none}
+use Rattle.laying.proofs.Laying.{laid-none, lies-still, remnant-yet, turn-laid}
 use Rattle.laying.proofs.inner.lay_back.Statement.{statement}
 use Rattle.laying.proofs.inner.lay_back.Tie as tie
 
@@ -99,10 +98,7 @@ remnant c =
     let l = c .before .before .before in
     let s = l .before .before .before .before .before in
     let i = l .loop .i in
-    c .remnant-of2 .ensures
-    ∙ ap (λ (e : List ℕ). remnantOf e (s .args .named .now) (i + 1)) (l .loop .inv .2)
-    ∙ remnant-laid (s .args .desk .now) (s .args .named .now) (s .args .first) (s .args .w) (compensating (f s) i) (i + 1)
-    (s .pre .0 .before (i + 1) (omega (arith, s .pre .1)))
+    remnant-yet _ _ _ (s .args .w) i (s .pre .0 .before (i + 1) (omega (arith, s .pre .1))) (l .loop .inv .2) (c .remnant-of2 .ensures)
 
 next : (c : tie.After-less Inv-loop μ-loop)
     → let l = c .before .before .before .before .before in let s = l .before .before .before .before .before in c .less .result ≡ R.lit (f s) (l .loop .i + 1)
@@ -128,15 +124,10 @@ loop-again c =
     let test = new .before .before .before .before .before .before .before .before .loop-test in
     let l = new .before .before .before .before .before .before .before .before .before .loop in
     let s = new .before .before .before .before .before .before .before .before .before .before .before .before .before .before in
-    let ls = compensating (f s) (l .i) in
-    let count : s .args .first + l .i ≡ s .args .first + length ls =
-    ap (λ (k : ℕ). s .args .first + k) (sym (compensating-count 0 (omega arith) (f s) (l .i))) in
     let after = c .before .before .set-row .ensures in (
       omega arith,
       next (new .before .before .before .before),
-      after
-          ∙ rw (l .inv .2, row new, count, compensating-more (f s) (l .i))
-          (sym (laid-more (s .args .desk .now) (s .args .first) (s .args .w) ls (link s (l .i)))),
+      turn-laid _ (s .args .named .now) _ _ (l .i) (l .inv .2) (row new) after,
       ap length after ∙ length-set-row _ _ _ ∙ l .inv .3,
     )
 

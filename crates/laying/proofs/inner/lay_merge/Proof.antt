@@ -1,11 +1,10 @@
 -- `lay_merge` meets its contract: an empty rest is not stored.
 use Prim.Native.Nat.{ℕ}
 use mathlib.Core.Path.{_≡_, sym, ap, _∙_}
-use mathlib.Core.List.{List, [], _∷_}
 use Rattle.literals.specs.declared.Lits.{Lits}
-use Rattle.literals.specs.Lits.{isEmpty}
 use Rattle.rules.specs.Desk.{setRow}
-use Rattle.rules.specs.Rewrite.{remnantOf, clash, apartFrom, gives, stored, laid}
+use Rattle.rules.specs.Rewrite.{clash, apartFrom, gives, given}
+use Rattle.rules.specs.Steps.{remnantOf, stored}
 use Rattle.laying.proofs.Laying.{laid-none, laid-one}
 use borrow.Author.Needs.{needs}
 use Rattle.laying.proofs.inner.lay_merge.Statement.{statement}
@@ -41,7 +40,7 @@ same-length : tie.Need-same-length
 same-length c = search needs
 
 returns : tie.Need-returns
-unfolding gives stored
+unfolding given gives stored
 returns c =
     let found = c .before .before in
     let s = start (found .before .before .before .before .before) in
@@ -58,7 +57,7 @@ same-length-2 : tie.Need-same-length-2
 same-length-2 c = search needs
 
 returns-2 : tie.Need-returns-2
-unfolding gives stored
+unfolding given gives stored
 returns-2 c =
     let left = c .before .before .before .before .before in
     let found = left .before .before in

@@ -1,6 +1,5 @@
 -- `lay_shift` meets its contract: l2 is what the second row holds beside not l1.
-use mathlib.Core.Path.{_∙_}
-use Rattle.rules.specs.Rewrite.{gives, lit}
+use Rattle.laying.proofs.Laying.{shift-laid}
 use borrow.Author.Needs.{needs}
 use Rattle.laying.proofs.inner.lay_shift.Statement.{statement}
 use Rattle.laying.proofs.inner.lay_shift.Tie as tie
@@ -30,18 +29,11 @@ same-length : tie.Need-same-length
 same-length c = search needs
 
 returns : tie.Need-returns
-unfolding gives lit
 returns c =
     let two = c .before .before .before .before .before .before in
-    c .before .before .lay-two .ensures
-    ∙ rw (
-      c .before .before .before .together .ensures,
-      c .before .before .before .before .negated2 .ensures,
-      two .less .ensures,
-      two .before .negated .ensures,
-      two .before .before .remnant-of2 .ensures,
-      two .before .before .before .before .remnant-of .ensures,
-    )
+    shift-laid _ _ _ _ (two .before .before .before .before .remnant-of .ensures) (two .before .before .remnant-of2 .ensures)
+    (two .before .negated .ensures) (two .less .ensures) (c .before .before .before .before .negated2 .ensures) (c .before .before .before .together .ensures)
+    (c .before .before .lay-two .ensures)
 
 pub lay-shift-spec : {M : Type 1} → statement M
 lay-shift-spec =

@@ -1,12 +1,10 @@
 use Rattle.laying.proofs.Entry.{blank, entry-whole}
 -- `rewriting_entry` meets its contract: after i turns the first i rows stand in their places.
-use Prim.Native.Nat.{ℕ, _+_, _-_, _≤_}
-use mathlib.Core.Path.{_≡_, refl, sym, ap, _∙_}
-use mathlib.Core.List.{List, [], _∷_, _++_}
+use Prim.Native.Nat.{ℕ, _-_, _≤_}
+use mathlib.Core.Path.{_≡_, refl, ap, _∙_}
 use native.Mathlib.Omega.{arith}
-use lib.ListN.{length, take, length-set}
+use lib.ListN.{length, take}
 use lib.Seq.{sets, take-length}
-use Rattle.rules.specs.Rewrite.{rewritingEntry}
 use Rattle.masks.proofs.Words.{copied-more}
 use Rattle.laying.proofs.inner.rewriting_entry.Statement.{statement}
 use Rattle.laying.proofs.inner.rewriting_entry.Tie as tie

@@ -1,8 +1,5 @@
 -- `changed` meets its contract: each branch is the definition's.
 use native.Mathlib.Omega.{arith}
-use mathlib.Core.Path.{_≡_}
-use mathlib.Core.Bool.{Bool, cond}
-use Prim.Native.Nat.{ℕ, _+_, _^_, _<_, _≤_}
 use Rattle.named.proofs.inner.changed.Statement.{statement}
 use Rattle.named.proofs.inner.changed.Tie as tie
 

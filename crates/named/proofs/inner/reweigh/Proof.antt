@@ -1,26 +1,23 @@
 -- `reweigh` meets its contract: after i turns the first i named rows have their new weight, and the next its old one.
-use Prim.Native.Nat.{ℕ, _+_, _≤_, _<_, _-_}
+use Prim.Native.Nat.{ℕ, _≤_, _-_}
 use mathlib.Core.Path.{_≡_, refl, sym, ap, _∙_, subst}
 use mathlib.Core.List.{List}
-use mathlib.Core.Bool.{Bool, cond}
 use native.Mathlib.Omega.{arith}
 use lib.ListN.{length, getD}
 use Rattle.rules.specs.declared.Row.{Row}
 use Rattle.rules.specs.Desk.{rowOn, setWeight}
-use Rattle.rules.specs.Rewrite.{reweighed}
+use Rattle.rules.specs.Steps.{reweighed}
 use Rattle.desk_laws.proofs.Stores.{length-set-weight}
+use Rattle.named.specs.Reweigh.{newWeight}
 use Rattle.named.proofs.Turns.{reweighed-none, reweighed-more, weight-yet}
 use Rattle.named.proofs.inner.reweigh.Statement.{statement}
 use Rattle.named.proofs.inner.reweigh.Tie as tie
-
-abbrev new : ℕ → Bool → ℕ → ℕ
-new w regain x = cond regain (x + w) (x - w)
 
 abbrev row : List ℕ → ℕ → ℕ
 row named i = getD named i 0
 
 abbrev Inv-loop : tie.InvT-loop
-Inv-loop desk₀ named w regain i₀ desk i = (i ≤ length named) × (desk ≡ reweighed (new w regain) (row named) desk₀ i) × (length desk ≡ length desk₀)
+Inv-loop desk₀ named w regain i₀ desk i = (i ≤ length named) × (desk ≡ reweighed (newWeight w regain) (row named) desk₀ i) × (length desk ≡ length desk₀)
 
 abbrev μ-loop : tie.MeasureT-loop
 μ-loop desk₀ named w regain i₀ desk i = length named - i
@@ -52,7 +49,7 @@ old c =
     let l = c .before .before .before .before .loop in
     ap (λ (r : Row). r .weight) (c .row-on .ensures)
     ∙ ap (λ (e : List ℕ). rowOn e (row (s .args .named .now) (l .i)) .weight) (l .inv .1)
-    ∙ weight-yet (new (s .args .w) (s .args .regain)) (row (s .args .named .now)) (s .args .desk .now) (length (s .args .named .now)) (l .i)
+    ∙ weight-yet (newWeight (s .args .w) (s .args .regain)) (row (s .args .named .now)) (s .args .desk .now) (length (s .args .named .now)) (l .i)
     (s .pre .apart) (omega arith)
 
 changed-requires : tie.Need-changed-requires Inv-loop μ-loop
@@ -88,7 +85,7 @@ loop-again c =
     let r = c .before .before .before .before .before in
     let e = c .before .before .set-weight .ensures in
     let k = row (s .args .named .now) (l .i) in
-    let f = new (s .args .w) (s .args .regain) in
+    let f = newWeight (s .args .w) (s .args .regain) in
     let g = reweighed f (row (s .args .named .now)) (s .args .desk .now) (l .i) in
     let w : c .before .before .before .changed .result ≡ f (rowOn g k .weight) =
     c .before .before .before .changed .ensures
@@ -107,7 +104,7 @@ returns c =
     let s = c .before .before .before .before in
     let l = c .before .loop in
     let e : l .i ≡ length (s .args .named .now) = omega arith in
-    subst (λ (k : ℕ). l .desk ≡ reweighed (new (s .args .w) (s .args .regain)) (row (s .args .named .now)) (s .args .desk .now) k) e (l .inv .1)
+    subst (λ (k : ℕ). l .desk ≡ reweighed (newWeight (s .args .w) (s .args .regain)) (row (s .args .named .now)) (s .args .desk .now) k) e (l .inv .1)
 
 pub reweigh-spec : {M : Type 1} → statement M
 reweigh-spec =

@@ -3,7 +3,7 @@ use mathlib.Core.Path.{sym}
 use native.Mathlib.Omega.{arith}
 use borrow.Author.Tests.{not-true, not-false}
 use borrow.Author.Needs.{needs}
-use Rattle.rules.specs.Text.{equalSign}
+use Rattle.text_laws.specs.Keys.{equalSign}
 use Rattle.text_laws.proofs.Matched.{matched, unmatched}
 use Rattle.text_laws.proofs.Stands.{inside, ends-with}
 use Rattle.text_laws.proofs.Branches.{line-no-key, line-no-number, line-is, line-unended}

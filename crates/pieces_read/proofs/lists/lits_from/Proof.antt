@@ -9,7 +9,8 @@ use Rattle.literals.specs.Lits.{noLits}
 use Rattle.rules.specs.Reader.{litsFrom}
 use Rattle.text_laws.proofs.Matched.{matched, unmatched}
 use Rattle.text_laws.proofs.Stands.{inside}
-use Rattle.text_laws.proofs.Branches.{Parted, lits-none, lits-end, lits-unparted, lits-broken, lits-next, literal-found}
+use Rattle.text_laws.proofs.Branches.{Parted, lits-none, lits-end, lits-unparted}
+use Rattle.pieces_read.proofs.Signs.{lits-stuck, lits-grown}
 use Rattle.pieces_read.proofs.lists.lits_from.Statement.{statement}
 use Rattle.pieces_read.proofs.lists.lits_from.Tie as tie
 
@@ -82,8 +83,8 @@ add-at c =
 literal-at-requires : tie.Need-literal-at-requires Inv-loop μ-loop
 literal-at-requires c κs = search needs
 
-enum-known-positive : tie.Need-enum-known-positive Inv-loop μ-loop
-enum-known-positive c = search needs
+enum-known-literal : tie.Need-enum-known-literal Inv-loop μ-loop
+enum-known-literal c = search needs
 
 enum-told : tie.Need-enum-told Inv-loop μ-loop
 enum-told c = search needs
@@ -95,11 +96,16 @@ returns-3 c =
     let loop = here .before .loop in
     let no-end = unmatched (joined .before .before .byte-at .ensures) (joined .before .if1 .left) in
     let literal = matched (c .before .before .literal-at .ensures) (c .enum-told .given .1) in
-    matched (lits-broken _ _ (loop .at) (loop .last) (loop .lits) _ no-end (parted joined) literal) (turn here)
+    matched (lits-stuck _ _ (loop .at) (loop .last) (loop .lits) _ no-end (parted joined) literal) (turn here)
 
-with-literal-requires : tie.Need-with-literal-requires Inv-loop μ-loop
-with-literal-requires c κs =
-    omega (arith, literal-found _ _ _ _ _ _ (matched (c .before .before .before .literal-at .ensures) (c .before .positive .given .1)) .above)
+lits-requires : tie.Need-lits-requires Inv-loop μ-loop
+lits-requires c κs = search needs
+
+together-requires : tie.Need-together-requires Inv-loop μ-loop
+together-requires c κs = search needs
+
+size-requires : tie.Need-size-requires Inv-loop μ-loop
+size-requires c κs = search needs
 
 add-i : tie.Need-add-i Inv-loop μ-loop
 add-i c = omega arith
@@ -109,14 +115,17 @@ loop-less c = omega arith
 
 loop-again : tie.Need-loop-again Inv-loop μ-loop
 loop-again c =
-    let found = c .before .before in
+    let found = c .before .before .before .before in
     let joined = found .before .before .before in
     let here = joined .before .before .before in
     let loop = here .before .loop in
     let no-end = unmatched (joined .before .before .byte-at .ensures) (joined .before .if1 .left) in
-    let literal = matched (found .before .before .literal-at .ensures) (found .positive .given .1) in
-    let next = lits-next _ _ (loop .at) (loop .last) (loop .lits) _ _ _ _ no-end (parted joined) literal in
-    (omega arith, rw (c .with-literal .ensures) (matched next (turn here)))
+    let literal = matched (found .before .before .literal-at .ensures) (found .literal .given .1) in
+    let s = here .before .before .before .before .args .s .now in
+    let adds = lits-grown (suc mostVariables - (loop .i + 1)) s (loop .at) (loop .last) (loop .lits) (joined .if2 .at) no-end (parted joined) in (
+      omega arith,
+      matched (adds _ _ _ _ _ literal (c .before .before .lits .ensures) (c .before .together .ensures) (c .size .ensures)) (turn here),
+    )
 
 returns-4 : tie.Need-returns-4 Inv-loop μ-loop
 returns-4 c =
@@ -139,10 +148,12 @@ lits-from-spec =
     returns-2
     add-at
     literal-at-requires
-    enum-known-positive
+    enum-known-literal
     enum-told
     returns-3
-    with-literal-requires
+    lits-requires
+    together-requires
+    size-requires
     add-i
     loop-less
     loop-again

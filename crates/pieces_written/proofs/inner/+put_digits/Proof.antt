@@ -1,7 +1,7 @@
 -- The proof of the cycle of calls {put_digits}. The measure is how many digits may stand. What comes in front of the last digit was stored
 -- by the call of itself, and the last behind it.
 use mathlib.Core.Path.{_∙_}
-use Prim.Native.Nat.{_+_, _-_, _/_}
+use Prim.Native.Nat.{_-_, _/_}
 use native.Mathlib.Nat.{pos-of-ne-zero}
 use native.Mathlib.Omega.{arith}
 use Prim.Native.Nat.{ℕ, _<_}

@@ -2,7 +2,7 @@
 use mathlib.Core.Path.{refl, sym, _∙_}
 use native.Mathlib.Omega.{arith}
 use borrow.Author.Needs.{needs}
-use Rattle.rules.specs.Text.{equalSign}
+use Rattle.text_laws.specs.Keys.{equalSign}
 use Rattle.text_laws.specs.Keys.{litsKey}
 use Rattle.text_laws.proofs.Matched.{matched}
 use Rattle.text_laws.proofs.Stands.{ends-with}

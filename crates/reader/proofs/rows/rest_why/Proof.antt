@@ -1,7 +1,7 @@
 -- `rest_why` meets its contract: a row that breaks the form, an end that is the text's, or one that is not.
 use mathlib.Core.Path.{sym}
 use borrow.Author.Needs.{needs}
-use Rattle.rules.specs.Text.{firstRowLine}
+use Rattle.rules.specs.Reader.{firstRowLine}
 use Rattle.rules.specs.Reader.{rowsAt}
 use Rattle.text_laws.proofs.Matched.{matched}
 use Rattle.reader.proofs.Ends.{rest-broken, rest-ended, rest-surplus}

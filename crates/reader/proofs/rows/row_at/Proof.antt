@@ -1,6 +1,8 @@
 -- `row_at` meets its contract: the line of the weight, then that of the literals.
-use mathlib.Core.Path.{sym}
+use mathlib.Core.Path.{sym, ap, _∙_}
 use borrow.Author.Needs.{needs}
+use Rattle.rules.specs.declared.Row.{Row}
+use Rattle.rules.specs.declared.RowRead.{RowRead}
 use Rattle.text_laws.proofs.Matched.{matched}
 use Rattle.text_laws.proofs.Branches.{row-no-weight, row-no-lits, row-is}
 use Rattle.reader.proofs.rows.row_at.Statement.{statement}
@@ -44,12 +46,16 @@ returns-2 c =
     (matched (first .before .before .number-line .ensures) (first .weight .given .1))
     (matched (c .before .before .lits-line .ensures) (c .enum-told2 .given .1)))
 
+new-requires : tie.Need-new-requires
+new-requires c κs = search needs
+
 returns-3 : tie.Need-returns-3
 returns-3 c =
-    let second = c .before in
+    let second = c .before .before in
     let first = second .before .before .before .before in
     let a = first .before .before .before .before .before .args in
-    sym
+    ap (λ (row : Row). RowRead.Lines row (second .lits .given .0 .1 .0)) (c .new .ensures)
+    ∙ sym
     (row-is (a .s .now) (a .at) (a .line) _ _ _ _
     (matched (first .before .before .number-line .ensures) (first .weight .given .1))
     (matched (second .before .before .lits-line .ensures) (second .lits .given .1)))
@@ -68,4 +74,5 @@ row-at-spec =
     enum-told-2
     add-second
     returns-2
+    new-requires
     returns-3)

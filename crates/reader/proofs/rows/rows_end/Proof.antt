@@ -4,7 +4,7 @@ use mathlib.Core.Path.{_≡_, refl}
 use native.Mathlib.Nat.{sub-zero}
 use native.Mathlib.Omega.{arith}
 use borrow.Author.Needs.{needs}
-use Rattle.rules.specs.Text.{firstRowLine, rowLines}
+use Rattle.rules.specs.Reader.{firstRowLine, rowLines}
 use Rattle.rules.specs.Reader.{rowsAt}
 use Rattle.text_laws.proofs.Matched.{matched}
 use Rattle.text_laws.proofs.Branches.{rowsLeft}

@@ -8,7 +8,7 @@ use borrow.Author.Needs.{needs}
 use lib.ListN.{length}
 use lib.Seq.{sets, length-sets}
 use Rattle.rules.specs.Table.{rowWords, rowWordsOf}
-use Rattle.rules.specs.Text.{firstRowLine, rowLines}
+use Rattle.rules.specs.Reader.{firstRowLine, rowLines}
 use Rattle.rules.specs.Reader.{rowsAt, wordsOf}
 use Rattle.text_laws.specs.Ends.{unbroken}
 use Rattle.text_laws.proofs.Matched.{matched}

@@ -1,25 +1,25 @@
 -- `rewrite_step` meets its contract: the named rows lose w, the new rows are laid, then head and entry are settled.
 -- An accepted rewriting says what each of these calls asks; the desk between two calls is one of `Writing`.
-use Prim.Native.Nat.{ℕ, _+_, _-_, _*_, _≤_}
+use Prim.Native.Nat.{ℕ, _*_, _≤_}
 use mathlib.Core.Path.{_≡_, sym, ap, _∙_, subst}
 use mathlib.Core.List.{List}
 use mathlib.Core.Bool.{false, cond, _&&_}
 use native.Mathlib.Omega.{arith}
 use borrow.Author.Needs.{needs}
-use lib.ListN.{length, getD, set}
 use lib.Dec.{eqb}
 use Rattle.rules.specs.Table.{mostWeight}
-use Rattle.rules.specs.Desk.{inUse, conceded, weightOn}
-use Rattle.rules.specs.Rewrite.{lightest, reweighed, rewritingEntry, concedes}
-use Rattle.rules.specs.Decide.{entered}
+use Rattle.rules.specs.Desk.{inUse, weightOn}
+use Rattle.rules.specs.Rewrite.{lightest}
+use Rattle.rules.specs.Steps.{concedes}
 use Rattle.desk_laws.proofs.Verdicts.{Rewritten, rewrite-fine}
 use Rattle.step_laws.proofs.Accepted.{plan}
 use Rattle.words.specs.Room.{EntryLeft}
 use Rattle.named.specs.Reweigh.{Reweighable}
-use Rattle.fitting.specs.Rows.{addedRows}
+use Rattle.remnants.specs.Rows.{addedRows}
 use Rattle.fitting.proofs.Namings.{added-few}
 use Rattle.laying.specs.Room.{Fitting}
-use Rattle.rewrites.proofs.Writing.{lowered, laidOut, named-well, lies, some-named, can-lose, owed-once, can-lay, laid-same, entry-still, step-whole}
+use Rattle.rewrites.proofs.Writing.{lowered, laidOut, named-well, lies, some-named, can-lose, owed-once, can-lay}
+use Rattle.rewrites.proofs.Writing.{lowered-same, laid-same, entry-still, step-whole}
 use Rattle.rewrites.proofs.inner.rewrite_step.Statement.{statement}
 use Rattle.rewrites.proofs.inner.rewrite_step.Tie as tie
 
@@ -59,16 +59,13 @@ owed-fits c =
 -- the rows that lost w
 lowered-told : (c : tie.After-reweigh) → c .reweigh .last .0 ≡ lowered _ _ _ (accepted (start (light (owing c))))
 lowered-told c =
-    let s = start (light (owing c)) in
-    c .reweigh .ensures
-    ∙ ap (λ (v : ℕ). reweighed (λ x. x - v) (λ i. getD (s .args .named .now) i 0) (s .args .desk .now) (length (s .args .named .now)))
-    (light (owing c) .lightest .ensures)
+    lowered-same _ _ _ (accepted (start (light (owing c)))) (light (owing c) .lightest .ensures) (c .reweigh .ensures)
 
 -- with the new rows behind those in use
 laid-told : (c : tie.After-lay) → c .lay .last .0 ≡ laidOut _ _ _ (accepted (start (light (owing (lower c)))))
 laid-told c =
     let l = light (owing (lower c)) in
-    c .lay .ensures ∙ laid-same _ _ _ (accepted (start l)) _ _ (lowered-told (lower c)) (l .lightest .ensures)
+    laid-same _ _ _ (accepted (start l)) (l .lightest .ensures) (lowered-told (lower c)) (c .lay .ensures)
 
 -- ---- what each call asks
 
@@ -147,17 +144,8 @@ returns c =
     let entry = c .before .before .before .before in
     let l = entry .before .before .before in
     let o = owing (lower l) in
-    let v = light o .lightest .result in
-    let s = start (light o) in
-    let rows = o .before .before .added .result in
-    let after : List ℕ → ℕ → List ℕ = λ e u. entered
-    (set (set e 1 (inUse (s .args .desk .now) + rows)) 4 (conceded (s .args .desk .now) + u * o .owed .result))
-    (rewritingEntry (s .args .kind) u (s .args .named .now) (inUse (s .args .desk .now))) in
-    c .before .before .settle .ensures
-    ∙ ap (entered _) (entry .rewriting-entry .ensures)
-    ∙ ap (λ (e : List ℕ). after e v) (laid-told l)
-    ∙ ap (after (laidOut _ _ _ (accepted s))) (light o .lightest .ensures)
-    ∙ step-whole _ _ _ (accepted s) rows (o .owed .result) (o .before .before .added .ensures) (owed-told o)
+    step-whole _ _ _ (accepted (start (light o))) (light o .lightest .ensures) (o .before .before .added .ensures) (owed-told o) (laid-told l)
+    (entry .rewriting-entry .ensures) (c .before .before .settle .ensures)
 
 pub rewrite-step-spec : {M : Type 1} → statement M
 rewrite-step-spec =

@@ -1,6 +1,6 @@
 -- `Desk::of` meets its contract: each field is a word, as `word` ensures.
 use borrow.Author.Needs.{needs}
-use Rattle.rules.specs.Desk.{headOf}
+use Rattle.rules.specs.Figures.{headOf}
 use Rattle.rules.proofs.Desk.of.Statement.{statement}
 use Rattle.rules.proofs.Desk.of.Tie as tie
 

@@ -1,12 +1,10 @@
-use mathlib.Core.Path.{_≡_, ap, sym, _∙_, subst}
+use mathlib.Core.Path.{_≡_, ap, sym, subst}
 use Rattle.tables.proofs.Limits.{over-at-once, left-at-first, over-here, left-after, never-over}
 -- `sum_over` meets its contract: what is left, with the start and the rows passed, is the limit; past it the sum only grows.
-use Prim.Native.Nat.{ℕ, _+_, _*_, _≤_, _<_, _-_}
+use Prim.Native.Nat.{ℕ, _+_, _*_, _≤_, _-_}
 use mathlib.Core.List.{List}
 use native.Mathlib.Omega.{arith}
-use borrow.Author.Tests.{lt-ltb, le-ltb}
 use Rattle.masks.specs.Sums.{sum}
-use Rattle.masks.proofs.Sums.{sum-empty, sum-more, sum-mono}
 use Rattle.rules.specs.declared.Row.{Row}
 use Rattle.rules.specs.Table.{rowWords, mostWeight, rowIn}
 use Rattle.tables.proofs.inner.sum_over.Statement.{statement}

@@ -24,8 +24,8 @@ mul-row-in c = omega arith
 row-in-requires : tie.Need-row-in-requires Inv-loop μ-loop
 row-in-requires c κs = omega arith
 
-why-requires : tie.Need-why-requires Inv-loop μ-loop
-why-requires c κs = search needs
+row-why-requires : tie.Need-row-why-requires Inv-loop μ-loop
+row-why-requires c κs = search needs
 
 enum-told : tie.Need-enum-told Inv-loop μ-loop
 enum-told c = search needs
@@ -34,14 +34,14 @@ enum-told-2 : tie.Need-enum-told-2 Inv-loop μ-loop
 enum-told-2 c = search needs
 
 -- what the rows up to this one come to
-gave : (c : tie.After-why Inv-loop μ-loop)
-    → c .why .result ≡ rowsWhy (c .before .before .before .before .before .args .variables)
+gave : (c : tie.After-row-why Inv-loop μ-loop)
+    → c .row-why .result ≡ rowsWhy (c .before .before .before .before .before .args .variables)
     (c .before .before .before .before .before .args .table .now) (c .before .before .before .loop .i + 1)
 unfolding rowOf
 gave c =
     let a = c .before .before .before .before .before .args in
     let l = c .before .before .before .loop in
-    c .why .ensures ∙ ap (rowWhy (a .variables) (l .i)) (c .before .row-in .ensures) ∙ sym (rows-next (a .variables) (a .table .now) (l .i) (l .inv .1))
+    c .row-why .ensures ∙ ap (rowWhy (a .variables) (l .i)) (c .before .row-in .ensures) ∙ sym (rows-next (a .variables) (a .table .now) (l .i) (l .inv .1))
 
 returns : tie.Need-returns Inv-loop μ-loop
 returns c =
@@ -75,7 +75,7 @@ rows-why-spec =
     loop-holds
     mul-row-in
     row-in-requires
-    why-requires
+    row-why-requires
     enum-told
     enum-told-2
     returns

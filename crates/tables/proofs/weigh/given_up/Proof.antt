@@ -1,5 +1,5 @@
 -- `given_up` meets its contract: after i turns the weight is that of the first i rows.
-use Prim.Native.Nat.{ℕ, _+_, _≤_, _-_}
+use Prim.Native.Nat.{ℕ, _≤_, _-_}
 use mathlib.Core.Path.{_≡_, sym, _∙_, ap, subst}
 use native.Mathlib.Omega.{arith}
 use Rattle.masks.specs.Sums.{sum}

@@ -1,7 +1,7 @@
 -- `weight_of` meets its contract: a table that is not refused has weights whose sum fits.
-use mathlib.Core.Path.{sym, _∙_, ap}
+use mathlib.Core.Path.{sym, _∙_}
 use native.Mathlib.Omega.{arith}
-use Rattle.rules.specs.Table.{weighed, weighs, weighedAs, rowCount}
+use Rattle.rules.specs.Table.{weighed, weighs, rowCount}
 use Rattle.tables.proofs.Rows.{weigh-sum}
 use borrow.Author.Needs.{needs}
 use Rattle.tables.proofs.weigh.weight_of.Statement.{statement}

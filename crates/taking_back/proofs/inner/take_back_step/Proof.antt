@@ -1,9 +1,9 @@
 -- `take_back_step` meets its contract: the kind decides what is undone.
-use mathlib.Core.Path.{_≡_, sym, ap, _∙_}
+use mathlib.Core.Path.{sym, _∙_}
 use native.Mathlib.Omega.{arith}
 use borrow.Author.Tests.{eq-eqb, ne-eqb}
 use Rattle.rules.specs.TakeBack.{takeBackStep, lastKind}
-use Rattle.taking_back.proofs.Lasts.{kind-word}
+use Rattle.last_entry.proofs.Lasts.{kind-word}
 use Rattle.taking_back.proofs.Undo.{steps-still}
 use borrow.Author.Needs.{needs}
 use Rattle.taking_back.proofs.inner.take_back_step.Statement.{statement}

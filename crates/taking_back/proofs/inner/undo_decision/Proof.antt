@@ -1,10 +1,8 @@
 -- `undo_decision` meets its contract: the bit leaves both masks, then the entry is withdrawn.
-use Prim.Native.Nat.{ℕ}
-use mathlib.Core.Path.{_≡_, sym, ap, _∙_}
-use mathlib.Core.List.{List}
+use mathlib.Core.Path.{ap, _∙_}
 use native.Mathlib.Omega.{arith}
-use lib.ListN.{length, set, length-set}
-use Rattle.rules.specs.TakeBack.{undoDecision, lastVariable, withdrawn}
+use lib.ListN.{length, length-set}
+use Rattle.rules.specs.TakeBack.{undoDecision, lastVariable}
 use Rattle.step_laws.proofs.Entries.{length-withdrawn}
 use Rattle.taking_back.proofs.Undo.{steps-still, head-fits, variable-some, still-by-two}
 use borrow.Author.Needs.{needs}

@@ -1,22 +1,18 @@
 -- `undo_rewriting` meets its contract: the named rows regain w, the new rows are zeroed, then head and entry are released.
 -- An accepted taking back says what each of these calls asks; the desk between two calls is one of `Undo`.
-use Prim.Native.Nat.{ℕ, _+_, _-_, _*_}
+use Prim.Native.Nat.{ℕ}
 use mathlib.Core.Path.{_≡_, sym, ap, _∙_, subst}
-use mathlib.Core.List.{List}
 use mathlib.Core.Bool.{true}
 use native.Mathlib.Omega.{arith}
 use borrow.Author.Needs.{needs}
-use lib.ListN.{length, getD, set, take}
-use Rattle.masks.specs.Words.{zeroed}
-use Rattle.rules.specs.Table.{rowWords}
-use Rattle.rules.specs.Desk.{inUse, conceded, rowPlace, deskWords}
-use Rattle.rules.specs.Rewrite.{reweighed}
-use Rattle.rules.specs.TakeBack.{lastWeight, lastCount, lastFirst, lastNamed, lastConceded, undoRewriting, withdrawn}
+use lib.ListN.{length, take}
+use Rattle.rules.specs.Desk.{rowPlace, deskWords}
+use Rattle.rules.specs.TakeBack.{lastWeight, lastCount, lastFirst}
 use Rattle.words.specs.Room.{StepStands}
 use Rattle.named.specs.Reweigh.{Reweighable}
-use Rattle.taking_back.proofs.Lasts.{first-word}
+use Rattle.last_entry.proofs.Lasts.{first-word}
 use Rattle.taking_back.proofs.Undo.{taken, standing-still, steps-still, head-fits, entry-good, few-rows, use-fits, can-regain, named-length}
-use Rattle.taking_back.proofs.Undo.{regained-same, regained, freed, length-regained, stands-after}
+use Rattle.taking_back.proofs.Undo.{regained-same, regained, freed-same, freed, undone-whole, length-regained, stands-after}
 use Rattle.taking_back.proofs.inner.undo_rewriting.Statement.{statement}
 use Rattle.taking_back.proofs.inner.undo_rewriting.Tie as tie
 
@@ -53,25 +49,19 @@ first-told c = c .last-word3 .ensures ∙ first-word (start (weighing c) .args .
 -- the rows that regained w
 regained-told : (c : tie.After-reweigh) → let s = start (weighing (firsts (rows c))) in c .reweigh .last .0 ≡ regained _ (s .pre .0) (s .pre .1)
 regained-told c =
-    let f = firsts (rows c) in
+    let r = rows c in
+    let f = firsts r in
     let s = start (weighing f) in
-    let named : ℕ → List ℕ = λ n. take n (rows c .last-rows .result) in
-    let after : ℕ → ℕ → List ℕ = λ w n. reweighed (λ x. x + w) (λ i. getD (named n) i 0) (s .args .desk .now) (length (named n)) in
-    c .reweigh .ensures
-    ∙ ap (λ (w : ℕ). after w (f .before .before .last-word2 .result)) (weight-told (weighing f))
-    ∙ ap (after (lastWeight (s .args .desk .now))) (count-told (f .before .before))
-    ∙ regained-same (s .args .desk .now) (s .pre .0) (s .pre .1) (rows c .last-rows .result) (omega arith) (rows c .last-rows .ensures)
+    regained-same _ (s .pre .0) (s .pre .1) (r .last-rows .result) (omega arith) (r .last-rows .ensures) (weight-told (weighing f))
+    (count-told (f .before .before)) (c .reweigh .ensures)
 
 -- with the new rows zeroed
 freed-told : (c : tie.After-zero-rows)
     → let s = start (weighing (firsts (rows (regaining c)))) in c .zero-rows .last .0 ≡ freed _ (s .pre .0) (s .pre .1)
 freed-told c =
     let f = firsts (rows (regaining c)) in
-    let d = start (weighing f) .args .desk .now in
-    let after : List ℕ → ℕ → List ℕ = λ e first. zeroed e (rowPlace first) (rowWords * (inUse d - first)) in
-    c .zero-rows .ensures
-    ∙ ap (λ (e : List ℕ). after e (f .last-word3 .result)) (regained-told (regaining c))
-    ∙ ap (after (regained _ (start (weighing f) .pre .0) (start (weighing f) .pre .1))) (first-told f)
+    let s = start (weighing f) in
+    freed-same _ (s .pre .0) (s .pre .1) (first-told f) (regained-told (regaining c)) (c .zero-rows .ensures)
 
 -- ---- what each call asks
 
@@ -165,18 +155,12 @@ same-length : tie.Need-same-length
 same-length c = search needs
 
 returns : tie.Need-returns
-unfolding undoRewriting
 returns c =
     let z = c .before .before .before .before .before .before in
     let f = firsts (rows (regaining z)) in
     let s = start (weighing f) in
-    let d = s .args .desk .now in
-    let by = rows (regaining z) .before .before in
-    let after : List ℕ → ℕ → ℕ → List ℕ = λ e first back. withdrawn (set (set e 1 first) 4 (conceded d - back)) in
-    c .before .before .release .ensures
-    ∙ ap (λ (e : List ℕ). after e (f .last-word3 .result) (by .conceded-by .result)) (freed-told z)
-    ∙ ap (λ (first : ℕ). after (freed _ (s .pre .0) (s .pre .1)) first (by .conceded-by .result)) (first-told f)
-    ∙ ap (after (freed _ (s .pre .0) (s .pre .1)) (lastFirst d)) (by .conceded-by .ensures)
+    undone-whole _ (s .pre .0) (s .pre .1) (first-told f) (rows (regaining z) .before .before .conceded-by .ensures) (freed-told z)
+    (c .before .before .release .ensures)
 
 pub undo-rewriting-spec : {M : Type 1} → statement M
 undo-rewriting-spec =

@@ -1,14 +1,12 @@
 -- `last_rows` meets its contract: after i turns the first i row numbers are copied.
-use Prim.Native.Nat.{ℕ, _+_, _-_, _*_, _≤_, _<_}
-use mathlib.Core.Path.{_≡_, refl, sym, ap, _∙_}
-use mathlib.Core.Logic.{⊎-elim}
-use mathlib.Core.List.{List}
+use Prim.Native.Nat.{ℕ, _+_, _-_, _≤_, _<_}
+use mathlib.Core.Path.{_≡_, _∙_}
 use native.Mathlib.Omega.{arith}
 use borrow.Author.Count.{below-more}
-use lib.ListN.{length, getD, set, length-set}
+use lib.ListN.{length, getD, length-set}
 use lib.Seq.{getD-set-same, getD-set-other}
 use Rattle.rules.specs.Desk.{rowPlace, entryPlace}
-use Rattle.rules.specs.Rewrite.{mostNamed}
+use Rattle.rules.specs.Steps.{mostNamed}
 use Rattle.rules.specs.TakeBack.{lastPlace, lastNamed}
 use Rattle.words.proofs.inner.last_rows.Statement.{statement}
 use Rattle.words.proofs.inner.last_rows.Tie as tie

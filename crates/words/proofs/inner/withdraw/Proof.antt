@@ -1,8 +1,4 @@
 -- `withdraw` meets its contract: the entry is zeroed where it lies, then the count goes down.
-use mathlib.Core.Path.{ap}
-use mathlib.Core.List.{List}
-use Prim.Native.Nat.{ℕ}
-use lib.ListN.{set}
 use Rattle.rules.specs.Desk.{entryPlace, rowPlace}
 use Rattle.rules.specs.TakeBack.{lastPlace, withdrawn}
 use borrow.Author.Needs.{needs}

@@ -1,0 +1,1 @@
+// What the contract of each entry point says, by name. There is no code here.

@@ -1,0 +1,3 @@
+pub mod Bad
+pub mod Lasts
+pub mod Regained
