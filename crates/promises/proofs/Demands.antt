@@ -26,7 +26,7 @@ use Rattle.rules.specs.TakeBack.{takeBackWhy, takeBackStep, takeBackDesk}
 use Rattle.rules.specs.Bound.{bound, deskWhy, bounded}
 use Rattle.rules.specs.Walk.{foundBy, walkIn, searched}
 use Rattle.rules.specs.Text.{tableText, writeWhy, writeStep, written, writeOut}
-use Rattle.rules.specs.Reader.{readWhy, readStep, readTable}
+use Rattle.rules.specs.Reader.{headAt, headWhy, readWhy, readStep, textRead, readTable}
 use Rattle.rules.specs.Program.{answer, answerWhy, answerStep, answerOut}
 use Rattle.rules.specs.Calls.{Call, afterCalls}
 use Rattle.step_laws.specs.Standing.{standingCalls, AllFine, LoadsRefused}
@@ -36,13 +36,13 @@ use Rattle.step_laws.proofs.Replays.{run-again, run-accepted-again, run-untouch
 use Rattle.walk_laws.proofs.Bounds.{bound-below}
 use Rattle.text_laws.proofs.RoundTrip.{round-trip}
 use Rattle.text_laws.proofs.Converse.{converse}
-use Rattle.telling.specs.Told.{told}
+use Rattle.telling.specs.Told.{told, byTextRead}
 use Rattle.telling.proofs.Places.{number-small}
 use Rattle.contracts.proofs.Tied.{tied-in-code}
 use Rattle.contracts.proofs.TiedC.{tied-in-c}
 use Rattle.promises.specs.Demands.{Unchanged, Demand1, Demand2, Kept, Demand3}
 use Rattle.promises.proofs.Refusing.{exactly}
-use Rattle.promises.proofs.Lines.{read-back, by-lines}
+use Rattle.promises.proofs.Lines.{says-judged, read-back, by-lines}
 use Rattle.promises.proofs.Rewriting.{rewriting, judges}
 use Rattle.promises.proofs.Searching.{search-finished, search-stopped, readings-in-order, search-stop-rule}
 
@@ -69,9 +69,9 @@ take-back-left : (d : List ℕ) → Unchanged (takeBackWhy d) d (takeBackDesk d)
 unfolding takeBackDesk
 take-back-left d = left (takeBackWhy d) (takeBackStep d) d
 
-read-left : (text table : List ℕ) → Unchanged (readWhy text (length table)) table (readTable text table)
-unfolding readTable
-read-left text table = left (readWhy text (length table)) (readStep text table) table
+read-left : (text table : List ℕ) → Unchanged (byTextRead (textRead text (length table))) table (readTable text table)
+unfolding readTable readWhy
+read-left text table r e = left (headWhy text (length table) (headAt text)) (readStep text table) table r (sym (says-judged text (length table)) ∙ e)
 
 write-left : (n budget : ℕ) (table out : List ℕ) → Unchanged (writeWhy n budget table out) out (writeOut n budget table out)
 unfolding writeOut

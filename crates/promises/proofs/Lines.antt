@@ -142,7 +142,7 @@ read-judged s room (HeadRead.Lines n b m from) = go (headWhy s room (HeadRead.Li
     go Fine = refl
     go (Refused r) = refl
 
-says-judged : (s : List ℕ) (room : ℕ) → byTextRead (textRead s room) ≡ headWhy s room (headAt s)
+pub says-judged : (s : List ℕ) (room : ℕ) → byTextRead (textRead s room) ≡ headWhy s room (headAt s)
 unfolding textRead readWhy
 says-judged s room = read-judged s room (headAt s)
 

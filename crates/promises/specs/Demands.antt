@@ -32,11 +32,11 @@ use Rattle.rules.specs.TakeBack.{takeBackWhy, takeBackDesk}
 use Rattle.rules.specs.Bound.{bound, bounded}
 use Rattle.rules.specs.Walk.{mostBudget, foundBy, walkIn, searched}
 use Rattle.rules.specs.Text.{tableText, writeWhy, written, writeOut}
-use Rattle.rules.specs.Reader.{readWhy, textRead, readWords, readTable}
+use Rattle.rules.specs.Reader.{textRead, readWords, readTable}
 use Rattle.rules.specs.Program.{answerWhy, answerOut}
 use Rattle.rules.specs.Calls.{Call, afterCalls}
 use Rattle.step_laws.specs.Standing.{standingCalls, AllFine, NeverTen, LoadsRefused, decidedBy, trueBy}
-use Rattle.telling.specs.Told.{told}
+use Rattle.telling.specs.Told.{told, byTextRead}
 use Rattle.contracts.specs.Tied.{TiedInCode}
 use Rattle.contracts.specs.TiedC.{TiedInC}
 use Rattle.promises.specs.Searches.{Finished, Stopped, InOrder, StopRule}
@@ -66,7 +66,7 @@ pub record Demand1 : Type 2 where
   pub decide : (d : List ℕ) (literal : ℤ) → Unchanged (decideWhy d literal) d (decideDesk d literal)
   pub rewrite : (d : List ℕ) (kind : ℕ) (named : List ℕ) → Unchanged (rewriteWhy d kind named) d (rewriteDesk d kind named)
   pub takeBack : (d : List ℕ) → Unchanged (takeBackWhy d) d (takeBackDesk d)
-  pub read : (text table : List ℕ) → Unchanged (readWhy text (length table)) table (readTable text table)
+  pub read : (text table : List ℕ) → Unchanged (byTextRead (textRead text (length table))) table (readTable text table)
   pub write : (n budget : ℕ) (table out : List ℕ) → Unchanged (writeWhy n budget table out) out (writeOut n budget table out)
   pub answer : (input output : List ℕ) → Unchanged (answerWhy input output) output (answerOut input output)
 
