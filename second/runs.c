@@ -379,6 +379,7 @@ static const struct run_family run_families[] = {
 };
 enum { RUN_FAMILIES = sizeof run_families / sizeof *run_families };
 
+#include "broken_desks.c"
 #include "full_runs.c"
 
 static int generate_runs(word seed, int count, const char *dir, bool full)

@@ -1,4 +1,4 @@
-// The kinds of value that document 01 speaks of, each with its limits and the small questions that are asked of it.
+// The kinds of value that document 01 speaks of, each with its limits; rows and heads of desks are made here, and parts fixed.
 // What they mean stands in specs/, in document 01's words and order. Nothing here asks anything of its caller.
 use literals::Lits;
 
