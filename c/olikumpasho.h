@@ -1,6 +1,6 @@
 /* Olikumpasho: the arbiter of a register, for software in C, C++ or whatever calls C. Link target/staticlib/libolikumpasho.a, which
-   `rt staticlib olikumpasho` proves and writes, for x86-64. It needs memcpy and memset and nothing else, allocates nothing and keeps nothing
-   between calls.
+   `c/library` proves and writes, for x86-64. It needs memcpy and memset and nothing else, allocates nothing and keeps nothing between
+   calls.
 
    WHAT IS LENT. A pointer with a count behind it is a lent slice of so many words or bytes, aligned as its kind of value asks. WHERE THE
    COUNT IS 0 IT MAY BE NULL OR POINT NOWHERE (an empty vector), AND ONLY THERE. A result (weight, least, found, head, size) IS NEVER NULL.

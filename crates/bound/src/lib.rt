@@ -1,7 +1,7 @@
 // The bound of a desk: lost, and what is foreseen by the units of each undecided variable.
 ghost use mathlib.Core.Path.{_≡_};
 ghost use Rattle.rules.specs.Bound.{bounded};
-use desk::well_formed;
+use formed::well_formed;
 use rules::Bounded;
 use rules::Refusal;
 

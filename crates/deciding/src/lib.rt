@@ -4,7 +4,7 @@ ghost use mathlib.Core.Bool.{true};
 ghost use Rattle.literals.specs.Literal.{isLiteral};
 ghost use Rattle.rules.specs.Decide.{decideWhy, decideDesk};
 ghost use Rattle.deciding.specs.Order.{stepWhy, outOfReach};
-use desk::well_formed;
+use formed::well_formed;
 use inner::decide_step;
 use literals::Literal;
 use literals::Offered;

@@ -1,4 +1,3 @@
-pub mod Branches
 pub mod Fronts
 pub mod Laid
 pub mod Loading

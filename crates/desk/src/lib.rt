@@ -1,7 +1,5 @@
-// A desk in lent words: well formed, and load.
-mod formed;
+// A table loaded onto a desk in lent words.
 pub mod inner;
 mod lay;
 
-pub use formed::well_formed;
 pub use lay::load;

@@ -6,7 +6,7 @@ ghost use Rattle.rules.specs.Rewrite.{fits, chains, forks, wellFitted, rewriteW
 ghost use Rattle.rules.specs.Steps.{wellNamed, remnantOf};
 ghost use Rattle.remnants.specs.Rows.{OnDesk, WellNamed};
 ghost use Rattle.fitting.specs.Open.{allOpen};
-use desk::well_formed;
+use formed::well_formed;
 use kinds::count_fits;
 use named::all_below;
 use named::repeated;

@@ -1,6 +1,3 @@
-pub mod Refusing
-pub mod Rewriting
-pub mod Searching
-pub mod Lines
-pub mod Demands
-pub mod Frauds
+pub mod Tied
+pub mod TiedC
+pub mod Promises

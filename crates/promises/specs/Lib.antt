@@ -1,5 +1,3 @@
-pub mod Orders
-pub mod Searches
-pub mod Rewritings
-pub mod Lines
-pub mod Demands
+pub mod Tied
+pub mod TiedC
+pub mod Promises

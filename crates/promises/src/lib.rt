@@ -1,1 +1,1 @@
-// The demands, by name. They are over the definitions that the contracts of the public functions cite, so that there is no code here.
+// What is promised, by name: the demands, and what the contract of each entry point says. There is no code here.

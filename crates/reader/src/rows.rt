@@ -30,7 +30,7 @@ fn lits_line(s: &[u8], at: usize) -> Listed
     let key = b"lits=";
     if pieces_read::stands(s, at, key) {
         let from = at + key.len();
-        pieces_read::lits_from(s, from)
+        lists_read::lits_from(s, from)
     } else {
         Listed::Broken
     }

@@ -75,8 +75,7 @@ unfoldable pub badWeight : ℕ → Bool
 badWeight w = eqb w 0 || ltb mostWeight w
 
 unfoldable pub rowWhy : ℕ → ℕ → Row → Judged
-rowWhy variables i row =
-    firstDue (BadLiterals i when badLits variables (row .lits) ∷ BadWeight i when badWeight (row .weight) ∷ [])
+rowWhy variables i row = firstDue (BadLiterals i when badLits variables (row .lits) ∷ BadWeight i when badWeight (row .weight) ∷ [])
 
 -- "rows in order with 5 before 6": the first refusal among the first k rows
 unfoldable pub rowsWhy : ℕ → List ℕ → ℕ → Judged
@@ -95,8 +94,7 @@ tableWhy variables table =
 
 -- Weight of a reading: 1, 2, rows, 7, 8.
 unfoldable pub weighWhy : ℕ → List ℕ → ℕ → Judged
-weighWhy variables table reading =
-    firstDue (asIn (tableWhy variables table) ∷ BadReading when not (below reading variables) ∷ [])
+weighWhy variables table reading = firstDue (asIn (tableWhy variables table) ∷ BadReading when not (below reading variables) ∷ [])
 
 abbrev pub weighedAs : Judged → ℕ → Weighed
 weighedAs Fine w = Weighed.Weight w

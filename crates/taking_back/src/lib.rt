@@ -1,7 +1,7 @@
 // Taking back the last standing step: judged whole, then undone.
 ghost use mathlib.Core.Path.{_≡_};
 ghost use Rattle.rules.specs.TakeBack.{takeBackWhy, takeBackDesk};
-use desk::well_formed;
+use formed::well_formed;
 use inner::take_back_step;
 use last_entry::inner::bad_last;
 use rules::Desk;

@@ -1,7 +1,7 @@
 // The search: a walk over the undecided variables, true before false, that keeps the best reading met within a budget of nodes.
 ghost use mathlib.Core.Path.{_≡_};
 ghost use Rattle.rules.specs.Walk.{searched};
-use desk::well_formed;
+use formed::well_formed;
 use rules::Refusal;
 use rules::Searched;
 

@@ -1,0 +1,38 @@
+// For software in C: the bound and the search, as `olikumpasho.h` has them. The desk is only read.
+ghost use mathlib.Core.Path.{_≡_};
+ghost use Rattle.rules.specs.Bound.{bounded};
+ghost use Rattle.rules.specs.Walk.{searched};
+ghost use Rattle.telling.specs.Told.{told, byBounded, boundOut, bySearched, foundOut};
+use rules::Bounded;
+use rules::Judged;
+use rules::Searched;
+use telling::found_words;
+use telling::inner::tell;
+
+#[no_mangle]
+pub extern "C" fn olikumpasho_bound(desk: &[u64], least: &mut u64) -> u64
+    ensures answer { λ r. ⌜ r ≡ told (byBounded (bounded (now (desk .entry)))) ⌝ }
+    ensures lent { λ _. ⌜ now (least .exit) ≡ boundOut (bounded (now (desk .entry))) (now (least .entry)) ⌝ }
+{
+    match bound::bound(desk) {
+        Bounded::Refused(r) => tell(Judged::Refused(r)),
+        Bounded::Bound(b) => {
+            *least = b;
+            0
+        }
+    }
+}
+
+#[no_mangle]
+pub extern "C" fn olikumpasho_search(desk: &[u64], budget: u32, found: &mut [u64; 5]) -> u64
+    ensures answer { λ r. ⌜ r ≡ told (bySearched (searched (now (desk .entry)) budget)) ⌝ }
+    ensures lent { λ _. ⌜ now (found .exit) ≡ foundOut (searched (now (desk .entry)) budget) (now (found .entry)) ⌝ }
+{
+    match walk::search(desk, budget) {
+        Searched::Refused(r) => tell(Judged::Refused(r)),
+        Searched::Found(f) => {
+            *found = found_words(f);
+            0
+        }
+    }
+}

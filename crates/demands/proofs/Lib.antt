@@ -1,0 +1,6 @@
+pub mod Refusing
+pub mod Rewriting
+pub mod Searching
+pub mod Lines
+pub mod Demands
+pub mod Frauds

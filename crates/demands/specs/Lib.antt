@@ -1,0 +1,5 @@
+pub mod Orders
+pub mod Searches
+pub mod Rewritings
+pub mod Lines
+pub mod Demands
