@@ -1,0 +1,75 @@
+/* What a call of stack.c is lent, the calls on it, and the tables that take them their longest ways. */
+#include "../c/olikumpasho.h"
+
+enum { ROWS = OLIKUMPASHO_MOST_ROWS, VARIABLES = OLIKUMPASHO_MOST_VARIABLES, CAPACITY = OLIKUMPASHO_MOST_CAPACITY };
+
+/* What the next call is lent, and what it answered. */
+static struct {
+    uint64_t table[3 * ROWS], desk[OLIKUMPASHO_DESK_WORDS(CAPACITY)], named[12], result[5], variables, reading, capacity, kind, answer;
+    uint8_t text[OLIKUMPASHO_MOST_WRITTEN], output[OLIKUMPASHO_MOST_WRITTEN];
+    size_t words, desk_words, count, text_size, room, size;
+    int64_t literal;
+    uint32_t budget;
+} *at;
+
+static void weight_of(void) { at->answer = olikumpasho_weight_of(at->variables, at->table, at->words, at->reading, at->result); }
+static void load(void) { at->answer = olikumpasho_load(at->variables, at->table, at->words, at->capacity, at->desk, at->desk_words); }
+static void well_formed(void) { at->answer = olikumpasho_well_formed(at->desk, at->desk_words); }
+static void decide(void) { at->answer = olikumpasho_decide(at->desk, at->desk_words, at->literal); }
+static void rewrite(void) { at->answer = olikumpasho_rewrite(at->desk, at->desk_words, at->kind, at->named, at->count); }
+static void take_back(void) { at->answer = olikumpasho_take_back(at->desk, at->desk_words); }
+static void bound(void) { at->answer = olikumpasho_bound(at->desk, at->desk_words, at->result); }
+static void search(void) { at->answer = olikumpasho_search(at->desk, at->desk_words, at->budget, at->result); }
+static void read_text(void) { at->answer = olikumpasho_read(at->text, at->text_size, at->table, at->words, at->result); }
+static void write_text(void)
+{
+    at->answer = olikumpasho_write(at->variables, at->budget, at->table, at->words, at->output, at->room, &at->size);
+}
+static void answer_text(void) { at->answer = olikumpasho_answer(at->text, at->text_size, at->output, at->room, &at->size); }
+
+/* ---- tables */
+
+static void row(uint64_t positive, uint64_t negative, uint64_t weight)
+{
+    at->table[at->words++] = positive;
+    at->table[at->words++] = negative;
+    at->table[at->words++] = weight;
+}
+
+static void no_rows(uint64_t of)
+{
+    at->variables = of;
+    at->words = 0;
+    at->capacity = CAPACITY;
+}
+
+static uint64_t all(void) { return ~(uint64_t)0 >> (64 - VARIABLES); }
+
+/* The longest text of an admissible table: every literal negative, as many weights of 8 figures as the sum allows, the rest of 7. */
+static void longest_table(void)
+{
+    no_rows(VARIABLES);
+    at->budget = OLIKUMPASHO_MOST_BUDGET;
+    for (int i = 0; i < ROWS; i++) row(0, all(), i < 54 ? 10000000 : 1000000);
+}
+
+/* The walk goes down once, to the last variable, and cuts each second branch. */
+static void deep_table(void)
+{
+    no_rows(VARIABLES);
+    for (int v = 0; v < VARIABLES; v++) row((uint64_t)1 << v, 0, 1);
+    row(all(), 0, OLIKUMPASHO_MOST_WEIGHT - VARIABLES);
+}
+
+/* 1, and (-1, 2), (-2, 3), .. (-8, 9); then -9; (-9, 10), (-9, 11), (-10, -11); and (1, 2), which merges with row 1. */
+static void chained_table(void)
+{
+    no_rows(11);
+    row(1, 0, 4);
+    for (int i = 0; i < OLIKUMPASHO_MOST_CHAIN; i++) row((uint64_t)2 << i, (uint64_t)1 << i, 4);
+    row(0, 1 << 8, 4);
+    row(1 << 9, 1 << 8, 4);
+    row(1 << 10, 1 << 8, 4);
+    row(0, 3 << 9, 4);
+    row(3, 0, 4);
+}
