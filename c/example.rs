@@ -17,6 +17,10 @@ mod c {
             variables: u64, budget: u32, table: *const u64, words: usize, output: *mut u8, room: usize, size: *mut usize,
         ) -> u64;
         pub fn olikumpasho_answer(input: *const u8, count: usize, output: *mut u8, room: usize, size: *mut usize) -> u64;
+        pub fn olikumpasho_read_wcnf(text: *const u8, count: usize, table: *mut u64, words: usize, head: *mut u64) -> u64;
+        pub fn olikumpasho_write_wcnf(
+            variables: u64, table: *const u64, words: usize, output: *mut u8, room: usize, size: *mut usize,
+        ) -> u64;
     }
 }
 

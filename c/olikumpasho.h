@@ -8,8 +8,9 @@
    every call ends, and nothing outside what is lent is read or written.
 
    WHAT COMES BACK. Each function but olikumpasho_well_formed answers 0 where the call is accepted. Else it is refused, and the answer has
-   the refusal's number in its low byte and its place above: the row from 0 for 5 and 6, the line from 1 for 20, else 0. A refused call has
-   changed no lent word or byte, results included.
+   the refusal's number in its low byte and its place above: the row from 0 for 5 and 6, the line from 1 for 20, the clause from 0 for 21,
+   else 0. (A line past 2^56 - 1, which only a competition file could have, is told as that one.) A refused call has changed no lent word or
+   byte, results included.
 
    THREADS. Nothing is shared but what is lent. Calls may run at once where none of them writes what another is lent: calls on separate
    desks always, and on one desk those that only read it (well_formed, bound, search).
@@ -51,13 +52,13 @@
 
    REFUSALS.
      number   refused because                                          by
-     1        over 64 variables                                        load, weight_of, read, write
-     2        words not a multiple of 3, or over 512 rows              load, weight_of, read, write
+     1        over 64 variables                                        load, weight_of, read, write, read_wcnf, write_wcnf
+     2        words not a multiple of 3, or over 512 rows              load, weight_of, read, write, read_wcnf, write_wcnf
      3        capacity below the rows or over 1,024                    load
-     4        what is lent for the result is too short                 load, read, write, answer
-     5        a row has a variable both ways or above the count        load, weight_of, write
-     6        a row weighs 0 or over 1,000,000,000                     load, weight_of, write
-     7        the weights sum over 1,000,000,000                       load, weight_of, write
+     4        what is lent for the result is too short                 load, read, write, answer, read_wcnf, write_wcnf
+     5        a row has a variable both ways or above the count        load, weight_of, write, read_wcnf, write_wcnf
+     6        a row weighs 0 or over 1,000,000,000                     load, weight_of, write, write_wcnf
+     7        the weights sum over 1,000,000,000                       load, weight_of, write, write_wcnf
      8        the reading names a variable above the count             weight_of
      9        the budget is over 4,294,967,295                         read
      10       the desk is not well formed, or its last entry is bad    decide, rewrite, take_back, bound, search
@@ -69,7 +70,8 @@
      15       rows in use plus new rows exceed the capacity            rewrite
      16       nothing to take back                                     take_back
      19       the input is over 65,536 bytes                           (in the text of answer)
-     20       a line breaks the form                                   read
+     20       a line breaks the form                                   read, read_wcnf
+     21       a clause weighs the file's top or more                   read_wcnf
    Where more than one holds, the first in the function's list below is given; rows are judged in order, each by 5 before 6. `answer` is
    itself refused by 4 alone: what the program refuses, 19 too, it answers in its text. */
 #ifndef OLIKUMPASHO_H
@@ -80,7 +82,7 @@
 #include <stdint.h>
 
 /* Rises by one with each change of a name, a number or a layout below. */
-#define OLIKUMPASHO_VERSION 1
+#define OLIKUMPASHO_VERSION 2
 
 /* ---- an answer, taken apart */
 
@@ -92,7 +94,7 @@
 #define OLIKUMPASHO_BAD_TABLE 2
 #define OLIKUMPASHO_BAD_CAPACITY 3
 #define OLIKUMPASHO_NO_ROOM 4
-#define OLIKUMPASHO_BAD_LITERALS 5 /* place: the row */
+#define OLIKUMPASHO_BAD_LITERALS 5 /* place: the row, or the clause */
 #define OLIKUMPASHO_BAD_WEIGHT 6   /* place: the row */
 #define OLIKUMPASHO_SUM_TOO_LARGE 7
 #define OLIKUMPASHO_BAD_READING 8
@@ -106,6 +108,7 @@
 #define OLIKUMPASHO_NOTHING_STANDS 16
 #define OLIKUMPASHO_INPUT_TOO_LONG 19
 #define OLIKUMPASHO_BAD_TEXT 20 /* place: the line */
+#define OLIKUMPASHO_WEIGHT_AT_TOP 21 /* place: the clause */
 
 /* ---- limits */
 
@@ -126,8 +129,9 @@
 #define OLIKUMPASHO_TABLE_WORDS(rows) (OLIKUMPASHO_ROW_WORDS * (size_t)(rows))
 #define OLIKUMPASHO_DESK_WORDS(capacity) \
     ((size_t)8 + OLIKUMPASHO_ROW_WORDS * (size_t)(capacity) + OLIKUMPASHO_ENTRY_WORDS * OLIKUMPASHO_MOST_STEPS)
-/* Bytes that are enough for write, and for answer, whatever they are given. */
+/* Bytes that are enough for write, for write_wcnf, and for answer, whatever they are given. */
 #define OLIKUMPASHO_MOST_WRITTEN ((size_t)136793)
+#define OLIKUMPASHO_MOST_WRITTEN_WCNF ((size_t)131663)
 #define OLIKUMPASHO_MOST_ANSWERED ((size_t)827)
 
 /* ---- the words of a desk */
@@ -169,6 +173,10 @@
 #define OLIKUMPASHO_HEAD_BUDGET 1
 #define OLIKUMPASHO_HEAD_ROWS 2
 #define OLIKUMPASHO_HEAD_WORDS 3
+/* and of a competition file */
+#define OLIKUMPASHO_WCNF_VARIABLES 0
+#define OLIKUMPASHO_WCNF_ROWS 1
+#define OLIKUMPASHO_WCNF_WORDS 2
 
 /* ---- bytes of stack */
 
@@ -183,6 +191,8 @@
 #define OLIKUMPASHO_STACK_READ 2048
 #define OLIKUMPASHO_STACK_WRITE 2048
 #define OLIKUMPASHO_STACK_ANSWER 36864
+#define OLIKUMPASHO_STACK_READ_WCNF 2048
+#define OLIKUMPASHO_STACK_WRITE_WCNF 2048
 
 #ifdef __cplusplus
 extern "C" {
@@ -239,6 +249,16 @@ uint64_t olikumpasho_write(uint64_t variables, uint32_t budget, const uint64_t *
 /* Writes what the program answers to an input to the front of the output, *size bytes. OLIKUMPASHO_MOST_ANSWERED are always enough.
    Refused by 4. */
 uint64_t olikumpasho_answer(const uint8_t *input, size_t count, uint8_t *output, size_t room, size_t *size);
+
+/* Reads a competition file (DIMACS WCNF, the form with a top in its header): a row for each clause, to the front of the table, and
+   variables and rows to head[0], head[1]. A literal given twice counts once. No weight is judged but by 21; load judges the others.
+   Refused by 20 (comments and header), 1, 2, 4, then line by line 20, 5, 21, and 20 for what follows the last clause. */
+uint64_t olikumpasho_read_wcnf(const uint8_t *text, size_t count, uint64_t *table, size_t words, uint64_t head[2]);
+
+/* Writes a table as a competition file, its top the sum of the weights and one, to the front of the output, *size bytes.
+   OLIKUMPASHO_MOST_WRITTEN_WCNF are always enough.
+   Refused by 1, 2, 5, 6, 7, 4. */
+uint64_t olikumpasho_write_wcnf(uint64_t variables, const uint64_t *table, size_t words, uint8_t *output, size_t room, size_t *size);
 
 #ifdef __cplusplus
 }

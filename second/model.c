@@ -1,4 +1,4 @@
-/* Tables and desk of document 01. Steps, bound and walk, and the text are in files of their own, included at the end. */
+/* Tables and desk of document 01. Steps, bound and walk, the text, and competition files are in files of their own, included at the end. */
 #include "model.h"
 
 #include <stdlib.h>
@@ -207,3 +207,4 @@ word desk_weight(const word *desk, word reading)
 #include "steps.c"
 #include "walk.c"
 #include "text.c"
+#include "wcnf.c"

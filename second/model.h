@@ -1,4 +1,4 @@
-/* The model of document 01, written from its text: tables, the desk, its steps, the bound, the walk and the text.
+/* The model of document 01, written from its text: tables, the desk, its steps, the bound, the walk and the text; and document 02's files.
    It prefers the obvious to the fast: a clause is a list of literals and a partial reading a list of values.
    Every figure that document 01 limits something with stands here and nowhere else. */
 #ifndef MODEL_H
@@ -81,6 +81,11 @@ struct header {
     word rows;
 };
 
+/* The three numbers of a competition file's header. */
+struct figures {
+    word variables, clauses, top;
+};
+
 struct clause clause_of(const word *row);
 struct clause remnant_of(const struct clause *c, const struct partial *p);
 bool is_satisfied(const struct clause *c, const struct partial *p);
@@ -109,5 +114,11 @@ struct refusal write_text(struct table t, uint32_t budget, char *out, size_t roo
 /* The program: the answer to the input, at most MOST_ANSWER bytes; the result is its length. */
 size_t program_answer(const unsigned char *input, size_t length, char *out);
 struct refusal answer_text(const unsigned char *input, size_t length, char *out, size_t room, size_t *written);
+
+/* Competition files, document 02's C-11. The front door searches with MOST_BUDGET; a smaller budget shows what a stopped search answers. */
+struct refusal read_wcnf(const unsigned char *text, size_t length, struct lent out, struct figures *figures);
+struct refusal write_wcnf(struct table t, char *out, size_t room, size_t *length);
+/* At most MOST_ANSWER bytes; the result is their number. */
+size_t wcnf_answer(const unsigned char *input, size_t length, uint32_t budget, char *out);
 
 #endif

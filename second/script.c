@@ -21,6 +21,8 @@
      weight VARS READING   of the table
      read ROOM FILL        the text into ROOM words, each FILL before
      write VARS BUDGET ROOM FILL   the table into ROOM bytes, each FILL (0 to 255) before
+     readwcnf ROOM FILL    the text, as a competition file, into ROOM words, each FILL before
+     writewcnf VARS ROOM FILL   the table, as a competition file, into ROOM bytes, each FILL before
      answer ROOM FILL      the program's answer to the text into ROOM bytes, each FILL before
      words FROM TO         prints `words` and the lent words FROM to TO - 1, and no checksum
 
@@ -30,10 +32,11 @@
      WEIGHT CHECK                          bound, weight
      done WEIGHT READING NODES CHECK       search; or stopped; weight and reading may be `none`
      ok VARS BUDGET ROWS CHECK             read
-     ok LENGTH CHECK                       write, answer
+     ok VARS CLAUSES CHECK                 readwcnf
+     ok LENGTH CHECK                       write, writewcnf, answer
      refused NUMBER PLACE CHECK            any of them
-   The checksum is over all the words lent, those out of reach and past the desk too; for read over its ROOM words, for
-   write and answer over their ROOM bytes. It starts at 14695981039346656037; each word (or byte)
+   The checksum is over all the words lent, those out of reach and past the desk too; for the readers over their ROOM words,
+   for the writers and answer over their ROOM bytes. It starts at 14695981039346656037; each word (or byte)
    in turn is xored in, the result multiplied by 1099511628211, modulo 2^64, and its upper half xored into its lower. */
 
 enum { MOST_LENT = 1000000 };
@@ -253,51 +256,7 @@ static void call_rewrite(struct bench *b, struct line *l, FILE *out)
     free(named);
 }
 
-static void call_read(struct bench *b, struct line *l, FILE *out)
-{
-    word room = next_number(l), fill = next_number(l);
-    struct header head = {0, 0, 0};
-    char text[80];
-    if (l->broken || room > MOST_LENT) {
-        l->broken = true;
-        return;
-    }
-    word *words = room_for(room * sizeof *words);
-    for (word i = 0; i < room; i++) words[i] = fill;
-    struct refusal no = read_text(b->text, b->text_length, (struct lent){words, room}, &head);
-    snprintf(text, sizeof text, "ok %" PRIu64 " %" PRIu32 " %" PRIu64, head.variables, head.budget, head.rows);
-    show_outcome(out, no, text, check_words(words, room));
-    free(words);
-}
-
-/* The call of write, or of answer, into bytes that are filled before. */
-static void show_bytes(struct bench *b, word variables, uint32_t budget, bool answer, word room, word fill, FILE *out)
-{
-    size_t length = 0;
-    char text[40], *bytes = room_for(room);
-    memset(bytes, (int)fill, room);
-    struct refusal no = answer ? answer_text(b->text, b->text_length, bytes, room, &length)
-                               : write_text((struct table){variables, b->table, b->table_count}, budget, bytes, room, &length);
-    word check = check_start();
-    for (word i = 0; i < room; i++) check = check_more(check, (unsigned char)bytes[i]);
-    snprintf(text, sizeof text, "ok %zu", length);
-    show_outcome(out, no, text, check);
-    free(bytes);
-}
-
-static void call_write(struct bench *b, struct line *l, FILE *out)
-{
-    word variables = next_number(l), budget = next_number(l), room = next_number(l), fill = next_number(l);
-    if (room > MOST_LENT || budget > MOST_BUDGET) l->broken = true;
-    if (!l->broken) show_bytes(b, variables, (uint32_t)budget, false, room, fill, out);
-}
-
-static void call_answer(struct bench *b, struct line *l, FILE *out)
-{
-    word room = next_number(l), fill = next_number(l);
-    if (room > MOST_LENT) l->broken = true;
-    if (!l->broken) show_bytes(b, 0, 0, true, room, fill, out);
-}
+#include "script_texts.c"
 
 static void call_words(struct bench *b, struct line *l, FILE *out)
 {
@@ -340,6 +299,10 @@ static bool run_call(struct bench *b, const char *name, struct line *l, FILE *ou
         call_read(b, l, out);
     } else if (strcmp(name, "write") == 0) {
         call_write(b, l, out);
+    } else if (strcmp(name, "readwcnf") == 0) {
+        call_read_wcnf(b, l, out);
+    } else if (strcmp(name, "writewcnf") == 0) {
+        call_write_wcnf(b, l, out);
     } else if (strcmp(name, "answer") == 0) {
         call_answer(b, l, out);
     } else if (strcmp(name, "words") == 0) {

@@ -1,12 +1,17 @@
-/* A second solver for document 01, to be compared with the project's own. It shares no code with it.
+/* A second solver for documents 01 and 02, to be compared with the project's own. It shares no code with it.
 
      second answer < TEXT                      the program's answer
      second answer FILE..                      each file's, to FILE.expected
+     second wcnf < TEXT                        the front door's answer to a competition file; or FILE.., to FILE.expected
+     second wcnf-read < TEXT                   `ok VARS CLAUSES` and the words of each row, or `refused NUMBER PLACE`; or FILE.., to FILE.read
+     second wcnf-copy < TEXT                   the table written anew, or nothing where that is refused; or FILE.., to FILE.copied
      second desk < SCRIPT                      a script of calls on a desk (the language is at the top of script.c)
      second desk FILE..                        each file's, to FILE.expected
      second generate texts SEED COUNT DIR      COUNT texts, DIR/00000-KIND.txt and on; DIR must exist
      second generate runs SEED COUNT DIR       COUNT scripts, DIR/00000-KIND.run and on
      second generate full-texts SEED COUNT DIR and full-runs: the same at the limits
+     second generate wcnf SEED COUNT DIR       COUNT competition files, DIR/00000-KIND.wcnf and on
+     second generate wcnf-runs SEED COUNT DIR  COUNT scripts that read and write such files
      second selftest                           checks of the model against document 01 and against enumeration
      second vectors FILE                       the worked examples of the source documents
      second scripts FILE DIR                   the calls of each of them, DIR/00000-vector.run and on
@@ -24,7 +29,9 @@
 #include "script.c"
 #include "chance.c"
 #include "texts.c"
+#include "wcnf_texts.c"
 #include "runs.c"
+#include "wcnf_runs.c"
 #include "selftest.c"
 #include "vectors.c"
 
@@ -39,6 +46,49 @@ static int run_answer(FILE *in, FILE *to)
     return whole ? 0 : 2;
 }
 
+static int run_wcnf(FILE *in, FILE *to)
+{
+    char out[MOST_ANSWER];
+    size_t length;
+    char *input = read_all(in, &length);
+    size_t written = wcnf_answer((const unsigned char *)input, length, MOST_BUDGET, out);
+    bool whole = fwrite(out, 1, written, to) == written;
+    free(input);
+    return whole ? 0 : 2;
+}
+
+static struct refusal read_table(FILE *in, word *words, struct figures *f)
+{
+    size_t length;
+    char *input = read_all(in, &length);
+    struct refusal no = read_wcnf((const unsigned char *)input, length, (struct lent){words, ROW_WORDS * MOST_LOADED}, f);
+    free(input);
+    return no;
+}
+
+static int run_wcnf_read(FILE *in, FILE *to)
+{
+    static word words[ROW_WORDS * MOST_LOADED];
+    struct figures f;
+    struct refusal no = read_table(in, words, &f);
+    if (no.number != 0) return fprintf(to, "refused %u %" PRIu64 "\n", no.number, no.place) > 0 ? 0 : 2;
+    fprintf(to, "ok %" PRIu64 " %" PRIu64 "\n", f.variables, f.clauses);
+    for (const word *row = words; row < words + ROW_WORDS * f.clauses; row += ROW_WORDS)
+        fprintf(to, "%" PRIu64 " %" PRIu64 " %" PRIu64 "\n", row[0], row[1], row[2]);
+    return ferror(to) ? 2 : 0;
+}
+
+static int run_wcnf_copy(FILE *in, FILE *to)
+{
+    static word words[ROW_WORDS * MOST_LOADED];
+    static char text[MOST_TEXT];
+    struct figures f;
+    size_t written;
+    if (read_table(in, words, &f).number != 0) return 0;
+    if (write_wcnf((struct table){f.variables, words, ROW_WORDS * f.clauses}, text, sizeof text, &written).number != 0) return 0;
+    return fwrite(text, 1, written, to) == written ? 0 : 2;
+}
+
 static int run_desk(FILE *in, FILE *to)
 {
     size_t length;
@@ -48,11 +98,11 @@ static int run_desk(FILE *in, FILE *to)
     return result;
 }
 
-static int each_file(int (*run)(FILE *in, FILE *to), char **names)
+static int each_file(int (*run)(FILE *in, FILE *to), char **names, const char *end)
 {
     for (; *names != NULL; names++) {
         char expected[4096];
-        snprintf(expected, sizeof expected, "%s.expected", *names);
+        snprintf(expected, sizeof expected, "%s.%s", *names, end);
         FILE *in = fopen(*names, "rb"), *to = fopen(expected, "wb");
         if (in == NULL || to == NULL) return 2;
         int result = run(in, to);
@@ -62,10 +112,10 @@ static int each_file(int (*run)(FILE *in, FILE *to), char **names)
     return 0;
 }
 
-/* From standard input to standard output, or each of the files. */
-static int run_on(int (*run)(FILE *in, FILE *to), char **names)
+/* From standard input to standard output, or each of the files, to one with this end to its name. */
+static int run_on(int (*run)(FILE *in, FILE *to), char **names, const char *end)
 {
-    if (*names != NULL) return each_file(run, names);
+    if (*names != NULL) return each_file(run, names, end);
     int result = run(stdin, stdout);
     return fflush(stdout) == 0 ? result : 2;
 }
@@ -78,6 +128,8 @@ static int run_generate(char **words)
     const char *what = words[0] + (full ? 5 : 0);
     if (strcmp(what, "texts") == 0) return generate_texts(seed, count, words[3], full);
     if (strcmp(what, "runs") == 0) return generate_runs(seed, count, words[3], full);
+    if (strcmp(words[0], "wcnf-runs") == 0) return generate_competition_runs(seed, count, words[3]);
+    if (strcmp(words[0], "wcnf") == 0) return generate_competitions(seed, count, words[3]);
     return 2;
 }
 
@@ -96,12 +148,16 @@ static int run_vectors(const char *name, const char *dir)
 
 int main(int count, char **words)
 {
-    if (count >= 2 && strcmp(words[1], "answer") == 0) return run_on(run_answer, words + 2);
-    if (count >= 2 && strcmp(words[1], "desk") == 0) return run_on(run_desk, words + 2);
+    if (count >= 2 && strcmp(words[1], "answer") == 0) return run_on(run_answer, words + 2, "expected");
+    if (count >= 2 && strcmp(words[1], "wcnf") == 0) return run_on(run_wcnf, words + 2, "expected");
+    if (count >= 2 && strcmp(words[1], "wcnf-read") == 0) return run_on(run_wcnf_read, words + 2, "read");
+    if (count >= 2 && strcmp(words[1], "wcnf-copy") == 0) return run_on(run_wcnf_copy, words + 2, "copied");
+    if (count >= 2 && strcmp(words[1], "desk") == 0) return run_on(run_desk, words + 2, "expected");
     if (count == 6 && strcmp(words[1], "generate") == 0) return run_generate(words + 2);
     if (count == 2 && strcmp(words[1], "selftest") == 0) return selftest();
     if (count == 3 && strcmp(words[1], "vectors") == 0) return run_vectors(words[2], NULL);
     if (count == 4 && strcmp(words[1], "scripts") == 0) return run_vectors(words[2], words[3]);
-    fputs("second answer|desk [FILE..] | generate [full-]texts|runs SEED COUNT DIR | selftest | vectors FILE | scripts FILE DIR\n", stderr);
+    fputs("second answer|desk|wcnf|wcnf-read|wcnf-copy [FILE..] | generate [full-]texts|[full-]runs|wcnf|wcnf-runs SEED COUNT DIR | selftest | vectors FILE |"
+          " scripts FILE DIR\n", stderr);
     return 2;
 }

@@ -246,6 +246,7 @@ static void check_scripts(struct tally *t)
 }
 
 #include "refusals.c"
+#include "wcnf_checks.c"
 #include "laws.c"
 
 static int selftest(void)
@@ -263,6 +264,7 @@ static int selftest(void)
     begin_family(&t, "scripts");
     check_scripts(&t);
     end_family(&t);
+    check_competitions(&t);
     check_refusals(&t);
     check_laws(&t);
     printf("%d passed, %d failed\n", t.all_passed, t.all_failed);

@@ -1,7 +1,7 @@
 /* Part of second.c: texts for the program, good ones of many families and damaged ones of named kinds. */
 
 /* Lines without their ends; the text is each line and an LF, then the tail. 1 stands for a 0 byte. */
-enum { MOST_LINES = 2 * MOST_DRAFTED + 8, MOST_LINE = 420 };
+enum { MOST_LINES = 2 * MOST_DRAFTED + 8, MOST_LINE = 2000 };
 struct lines {
     int count;
     char text[MOST_LINES][MOST_LINE];

@@ -240,6 +240,35 @@ struct refusal write_text(struct table t, uint32_t budget, char *out, size_t roo
     return told(answer, 1);
 }
 
+struct refusal read_wcnf(const unsigned char *text, size_t length, struct lent out, struct figures *figures)
+{
+    word answer = 0, got[2];
+    for AT_BOTH_PLACES(place) {
+        const uint8_t *bytes = lend_to_read(&bytes_room, place, text, length);
+        word *words = lend_copy(&desk_room, place, out.words, bytes_of(out.count));
+        word *result = lend_results(place, 2);
+        agree(place, &answer, olikumpasho_read_wcnf(bytes, length, words, out.count, result), got, 2, out.words, &desk_room);
+        read_back(&bytes_room);
+    }
+    *figures = (struct figures){got[0], got[1], 0};
+    return told(answer, 2);
+}
+
+struct refusal write_wcnf(struct table t, char *out, size_t room, size_t *length)
+{
+    word answer = 0, got;
+    for AT_BOTH_PLACES(place) {
+        const word *words = lend_to_read(&table_room, place, t.words, bytes_of(t.count));
+        uint8_t *bytes = lend_copy(&bytes_room, place, out, room);
+        size_t *result = (size_t *)lend_results(place, 1);
+        word now = olikumpasho_write_wcnf(t.variables, words, t.count, bytes, room, result);
+        agree(place, &answer, now, &got, 1, out, &bytes_room);
+        read_back(&table_room);
+    }
+    *length = got;
+    return told(answer, 1);
+}
+
 struct refusal answer_text(const unsigned char *input, size_t length, char *out, size_t room, size_t *written)
 {
     word answer = 0, got;

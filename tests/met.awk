@@ -16,7 +16,7 @@ function step(named, words) {
   return "fork, k = " (words - 6)
 }
 BEGIN {
-  split("load wellformed decide rewrite back bound search weight read write answer", names, " ")
+  split("load wellformed decide rewrite back bound search weight read write readwcnf writewcnf answer", names, " ")
   for (i in names) is_call[names[i]] = 1
   for (i = 1; i < ARGC; i++) {
     answers = ARGV[i] "." suffix

@@ -92,13 +92,15 @@ static void copy(volatile void *to, const volatile void *from, size_t bytes)
 }
 
 /* The text of the table, as an input. */
-static void take_text(void)
+static void take_as(void (*written)(void))
 {
     at->room = sizeof at->output;
-    aside(write_text);
+    aside(written);
     copy(at->text, at->output, at->size);
     at->text_size = at->size;
 }
+
+static void take_text(void) { take_as(write_text); }
 
 /* ---- the calls of each function */
 
@@ -279,6 +281,33 @@ static void answer_them(void)
     expect("too long", answer_text, 0);
 }
 
+static void read_files(void)
+{
+    longest_table();
+    take_as(write_file);
+    at->words = sizeof at->table / sizeof *at->table;
+    expect("read_wcnf", read_file, 0);
+    at->words--;
+    expect("no room", read_file, 4);
+    at->words++;
+    at->text_size--;
+    expect("unended", read_file, 20);
+    at->text[0] = 'x';
+    expect("no header", read_file, 20);
+}
+
+static void write_files(void)
+{
+    longest_table();
+    at->room = sizeof at->output;
+    expect("write_wcnf", write_file, 0);
+    if (at->size != OLIKUMPASHO_MOST_WRITTEN_WCNF) fail("write_wcnf: the longest text is not as long as the header says");
+    at->room = at->size - 1;
+    expect("no room", write_file, 4);
+    at->variables = 3;
+    expect("over the count", write_file, 5);
+}
+
 /* ---- nothing lent, by null pointers */
 
 static void told(const char *what, uint64_t answer_given, unsigned number, uint64_t place)
@@ -290,7 +319,7 @@ static void told(const char *what, uint64_t answer_given, unsigned number, uint6
 
 static void nulls(void)
 {
-    static const uint8_t bare[] = "vars=0\nbudget=1\nrows=0\n";
+    static const uint8_t bare[] = "vars=0\nbudget=1\nrows=0\n", empty[] = "p wcnf 0 0 1\n";
     uint64_t *desk = at->desk, *result = at->result;
     size_t most = at->desk_words;
     told("weight_of", olikumpasho_weight_of(0, NULL, 0, 0, result), 0, 0);
@@ -308,6 +337,11 @@ static void nulls(void)
     told("write, no room", olikumpasho_write(0, 1, NULL, 0, NULL, 0, &at->size), OLIKUMPASHO_NO_ROOM, 0);
     told("write", olikumpasho_write(0, 1, NULL, 0, at->output, sizeof at->output, &at->size), 0, 0);
     if (at->size != sizeof bare - 1 || memcmp(at->output, bare, at->size) != 0) fail("write: not the text of no rows");
+    told("read_wcnf, no text", olikumpasho_read_wcnf(NULL, 0, NULL, 0, result), OLIKUMPASHO_BAD_TEXT, 1);
+    told("read_wcnf", olikumpasho_read_wcnf(empty, sizeof empty - 1, NULL, 0, result), 0, 0);
+    told("write_wcnf, no room", olikumpasho_write_wcnf(0, NULL, 0, NULL, 0, &at->size), OLIKUMPASHO_NO_ROOM, 0);
+    told("write_wcnf", olikumpasho_write_wcnf(0, NULL, 0, at->output, sizeof at->output, &at->size), 0, 0);
+    if (at->size != sizeof empty - 1 || memcmp(at->output, empty, at->size) != 0) fail("write_wcnf: not the file of no clauses");
     told("answer, no room", olikumpasho_answer(NULL, 0, NULL, 0, &at->size), OLIKUMPASHO_NO_ROOM, 0);
     told("answer", olikumpasho_answer(NULL, 0, at->output, sizeof at->output, &at->size), 0, 0);
 }
@@ -322,7 +356,8 @@ static const struct {
     {"rewrite", OLIKUMPASHO_STACK_REWRITE, rewrite_them}, {"take_back", OLIKUMPASHO_STACK_TAKE_BACK, take_them_back},
     {"bound", OLIKUMPASHO_STACK_BOUND, bound_them}, {"search", OLIKUMPASHO_STACK_SEARCH, search_them},
     {"read", OLIKUMPASHO_STACK_READ, read_them}, {"write", OLIKUMPASHO_STACK_WRITE, write_them},
-    {"answer", OLIKUMPASHO_STACK_ANSWER, answer_them},
+    {"answer", OLIKUMPASHO_STACK_ANSWER, answer_them}, {"read_wcnf", OLIKUMPASHO_STACK_READ_WCNF, read_files},
+    {"write_wcnf", OLIKUMPASHO_STACK_WRITE_WCNF, write_files},
 };
 enum { FUNCTIONS = sizeof functions / sizeof *functions };
 

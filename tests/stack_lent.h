@@ -25,6 +25,8 @@ static void write_text(void)
 {
     at->answer = olikumpasho_write(at->variables, at->budget, at->table, at->words, at->output, at->room, &at->size);
 }
+static void read_file(void) { at->answer = olikumpasho_read_wcnf(at->text, at->text_size, at->table, at->words, at->result); }
+static void write_file(void) { at->answer = olikumpasho_write_wcnf(at->variables, at->table, at->words, at->output, at->room, &at->size); }
 static void answer_text(void) { at->answer = olikumpasho_answer(at->text, at->text_size, at->output, at->room, &at->size); }
 
 /* ---- tables */
@@ -45,12 +47,13 @@ static void no_rows(uint64_t of)
 
 static uint64_t all(void) { return ~(uint64_t)0 >> (64 - VARIABLES); }
 
-/* The longest text of an admissible table: every literal negative, as many weights of 8 figures as the sum allows, the rest of 7. */
+/* The longest text of an admissible table: every literal negative, as many weights of 8 figures as the sum allows, the rest of 7, the sum at
+   its limit, so that top has ten. */
 static void longest_table(void)
 {
     no_rows(VARIABLES);
     at->budget = OLIKUMPASHO_MOST_BUDGET;
-    for (int i = 0; i < ROWS; i++) row(0, all(), i < 54 ? 10000000 : 1000000);
+    for (int i = 0; i < ROWS; i++) row(0, all(), i < 54 ? 10000000 : i < ROWS - 1 ? 1000000 : 3000000);
 }
 
 /* The walk goes down once, to the last variable, and cuts each second branch. */

@@ -5,27 +5,25 @@ use mathlib.Core.Logic.{⊎-elim}
 use mathlib.Core.List.{List, _++_}
 use native.Mathlib.Nat.{zero-add}
 use native.Mathlib.Omega.{arith}
-use lib.ListN.{length, take, drop, replicate}
+use lib.ListN.{length, take, drop}
 use lib.Seq.{sets-eq, take-at}
 use Rattle.masks.proofs.Choice.{lt-or-le}
+use Rattle.literals.specs.Literal.{mostVariables}
 use Rattle.rules.specs.declared.Refusal.the-variants.{InputTooLong}
-use Rattle.rules.specs.declared.Judged.{Judged}
-use Rattle.rules.specs.declared.Judged.the-variants.{Fine, Refused}
+use Rattle.rules.specs.declared.Searched.{Searched}
 use Rattle.rules.specs.declared.TextRead.{TextRead}
 use Rattle.rules.specs.declared.Written.{Written}
 use Rattle.rules.specs.Table.{rowWords, mostRows}
-use Rattle.rules.specs.Desk.{deskWords, loadWhy}
-use Rattle.rules.specs.Walk.{walkIn, foundBy}
 use Rattle.rules.specs.Reader.{readWords, textRead}
-use Rattle.rules.specs.Program.{mostInput, foundText, programDesk, loadedAnswer, answer, answered, answerOut}
+use Rattle.rules.specs.Program.{mostInput, searchedText, tableSearched, answer, answered, answerOut}
 use Rattle.text_laws.proofs.Found.{read-fine}
 use Rattle.answer_lines.specs.Lengths.{mostAnswer}
 use Rattle.answer_lines.proofs.Lengths.{refusal-length, found-length}
 use Rattle.answer.proofs.Answering.{too-long, not-read, read, room}
 
-loaded-length : (j : Judged) (found : List ℕ) → length found ≤ mostAnswer → length (loadedAnswer j found) ≤ mostAnswer
-loaded-length Fine found h = h
-loaded-length (Refused r) found h = refusal-length r
+searched-length : (n : ℕ) (s : Searched) → n ≤ mostVariables → length (searchedText n s) ≤ mostAnswer
+searched-length n (Searched.Found found) h = found-length n found h
+searched-length n (Searched.Refused r) h = refusal-length r
 
 pub answer-length : (input : List ℕ) → length (answer input) ≤ mostAnswer
 answer-length input =
@@ -37,10 +35,8 @@ answer-length input =
     by-text : length input ≤ mostInput → (t : TextRead) → textRead input (rowWords * mostRows) ≡ t → length (answer input) ≤ mostAnswer
     by-text short (TextRead.Table n b m) e =
         let words = readWords input in
-        let d = programDesk n m words in
         rw (← read input short (rowWords * mostRows) n b m words refl e refl)
-        (loaded-length (loadWhy n words m (replicate (deskWords m) 0)) (foundText n (foundBy (walkIn d b)))
-        (found-length n _ (read-fine input (rowWords * mostRows) n b m e .variables)))
+        (searched-length n (tableSearched n b m words) (read-fine input (rowWords * mostRows) n b m e .variables))
     by-text short (TextRead.Refused r) e = rw (← not-read input short (rowWords * mostRows) r refl e) (refusal-length r)
 
 -- so bytes enough for any answer get it whole

@@ -4,16 +4,9 @@ ghost use mathlib.Core.Path.{_≡_};
 ghost use Rattle.rules.specs.Program.{answered, answerOut};
 use answer_lines::inner;
 use rules::Refusal;
-use rules::Searched;
 use rules::Written;
 
-mod outcomes;
-
-// What an input comes to: a search of so many variables, or a refusal.
-pub struct Outcome {
-    pub variables: u64,
-    pub searched: Searched,
-}
+mod inputs;
 
 // How many bytes the answer to the input has, which then stand at the front of those lent; or 4, and they are as they were. The first
 // run over the lines writes nowhere and tells how long they are.
@@ -21,7 +14,7 @@ pub fn answer(input: &[u8], output: &mut [u8]) -> Written
     ensures answer { λ r. ⌜ r ≡ answered (now (input .entry)) (now (output .entry)) ⌝ }
     ensures bytes { λ _. ⌜ now (output .exit) ≡ answerOut (now (input .entry)) (now (output .entry)) ⌝ }
 {
-    let outcome = outcomes::outcome_of(input);
+    let outcome = inputs::outcome_of(input);
     let variables = outcome.variables;
     let searched = outcome.searched;
     let mut nowhere = [0u8; 1];

@@ -12,12 +12,11 @@ use Rattle.rules.specs.declared.Found.{Found}
 use Rattle.rules.specs.declared.Searched.{Searched}
 use Rattle.rules.specs.Refusals.{numbered}
 use Rattle.rules.specs.Text.{bytes, line}
-use Rattle.rules.specs.Program.{refusalText, statusText, weightText, readingText, foundText}
+use Rattle.rules.specs.Program.{refusalText, statusText, weightText, readingText, foundText, searchedText}
 use Rattle.text_laws.specs.Keys.{weightKey}
 use Rattle.text_laws.specs.Pieces.{lineText}
 use Rattle.text_laws.proofs.Pieces.{line-length}
 use Rattle.answer_lines.specs.Keys.{refusedLine, doneLine, stoppedLine, noWeightLine, numberKey, placeKey, nodesKey}
-use Rattle.answer_lines.specs.Lines.{searchedText}
 use Rattle.answer_lines.specs.Lengths.{mostStatusLine, mostWeightLine}
 
 -- ---- the lines by case

@@ -2,9 +2,8 @@
 ghost use Prim.Native.Nat.{_+_, _≤_, _^_};
 ghost use Rattle.literals.specs.Literal.{mostVariables};
 ghost use Rattle.rules.specs.Text.{line};
-ghost use Rattle.rules.specs.Program.{refusalText, statusText, weightText, foundText};
+ghost use Rattle.rules.specs.Program.{refusalText, statusText, weightText, foundText, searchedText};
 ghost use Rattle.pieces_written.specs.Stored.{Stored};
-ghost use Rattle.answer_lines.specs.Lines.{searchedText};
 ghost use Rattle.answer_lines.specs.Lengths.{mostWeightLine};
 use pieces_written::inner;
 use readings::inner::put_reading;

@@ -28,6 +28,9 @@ use Rattle.rules.specs.Walk.{foundBy, walkIn, searched}
 use Rattle.rules.specs.Text.{tableText, writeWhy, writeStep, written, writeOut}
 use Rattle.rules.specs.Reader.{headAt, headWhy, readWhy, readStep, textRead, readTable}
 use Rattle.rules.specs.Program.{answer, answerWhy, answerStep, answerOut}
+use Rattle.rules.specs.Wcnf.{wcnfText, wcnfWriteWhy, wcnfOut}
+use Rattle.rules.specs.WcnfReader.{wcnfReadWhy, wcnfWords, wcnfTable}
+use Rattle.rules.specs.WcnfProgram.{wcnfAnswer, wcnfAnswerWhy, wcnfAnswerOut}
 use Rattle.rules.specs.Calls.{Call, afterCalls}
 use Rattle.step_laws.specs.Standing.{standingCalls, AllFine, LoadsRefused}
 use Rattle.desk_laws.proofs.Formed.{formed}
@@ -36,11 +39,13 @@ use Rattle.step_laws.proofs.Replays.{run-again, run-accepted-again, run-untouch
 use Rattle.walk_laws.proofs.Bounds.{bound-below}
 use Rattle.text_laws.proofs.RoundTrip.{round-trip}
 use Rattle.text_laws.proofs.Converse.{converse}
-use Rattle.telling.specs.Told.{told, byTextRead}
+use Rattle.telling.specs.Told.{told, toldNear, byTextRead}
 use Rattle.telling.proofs.Places.{number-small}
+use Rattle.demands.specs.Competition.{readerWhy}
 use Rattle.demands.specs.Demands.{Unchanged, Demand1, Demand2, Kept, Demand3}
 use Rattle.demands.proofs.Refusing.{exactly}
 use Rattle.demands.proofs.Lines.{says-judged, read-back, by-lines}
+use Rattle.demands.proofs.Competing.{says-judged as file-judged, competition}
 use Rattle.demands.proofs.Rewriting.{rewriting, judges}
 use Rattle.demands.proofs.Searching.{search-finished, search-stopped, readings-in-order, search-stop-rule}
 
@@ -79,6 +84,26 @@ answer-left : (input output : List ℕ) → Unchanged (answerWhy input output) o
 unfolding answerOut
 answer-left input output = left (answerWhy input output) (answerStep input output) output
 
+read-file-left : (text table : List ℕ) → Unchanged (readerWhy text (length table)) table (wcnfTable text table)
+unfolding wcnfTable
+read-file-left text table r e =
+    let words = wcnfWords text in
+    left (wcnfReadWhy text (length table)) (words ++ drop (length words) table) table r (sym (file-judged text (length table)) ∙ e)
+
+write-file-left : (n : ℕ) (table out : List ℕ) → Unchanged (wcnfWriteWhy n table out) out (wcnfOut n table out)
+unfolding wcnfOut
+write-file-left n table out = left (wcnfWriteWhy n table out) (wcnfText n table ++ drop (length (wcnfText n table)) out) out
+
+answer-file-left : (input output : List ℕ) → Unchanged (wcnfAnswerWhy input output) output (wcnfAnswerOut input output)
+unfolding wcnfAnswerOut
+answer-file-left input output =
+    let text = wcnfAnswer input in
+    left (wcnfAnswerWhy input output) (text ++ drop (length text) output) output
+
+near-fine : (j : Judged) → toldNear j ≡ 0 → j ≡ Fine
+near-fine Fine e = refl
+near-fine (Refused r) e = absurd (omega (arith, number-small r, e))
+
 zero-fine : (j : Judged) → told j ≡ 0 → j ≡ Fine
 zero-fine Fine e = refl
 zero-fine (Refused r) e = absurd (omega (arith, number-small r, e))
@@ -90,6 +115,8 @@ demand-1 =
       accepted = λ j. (zero-fine j, λ e. ap told e);
       number = λ r. omega (arith, number-small r);
       place = λ r. omega (arith, number-small r);
+      near = λ r small. omega (arith, small);
+      accepted-near = λ j. (near-fine j, λ e. ap toldNear e);
       load = load-left;
       decide = decide-left;
       rewrite = rewrite-left;
@@ -97,6 +124,9 @@ demand-1 =
       read = read-left;
       write = write-left;
       answer = answer-left;
+      readWcnf = read-file-left;
+      writeWcnf = write-file-left;
+      answerWcnf = answer-file-left;
     }
 
 -- ---- demand 2
@@ -124,6 +154,7 @@ demand-2 =
           (r .answer, read-back n budget table lent r);
       noOther = λ text lent n budget m table answer words. converse text (length lent) n budget m answer ∙ ap (tableText n budget) words;
       byLines = by-lines;
+      competition = competition;
     }
 
 -- ---- demand 3

@@ -2,5 +2,6 @@ pub mod Refusing
 pub mod Rewriting
 pub mod Searching
 pub mod Lines
+pub mod Competing
 pub mod Demands
 pub mod Frauds

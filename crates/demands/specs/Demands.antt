@@ -27,12 +27,16 @@ use Rattle.rules.specs.Walk.{mostBudget, foundBy, walkIn, searched}
 use Rattle.rules.specs.Text.{tableText, writeWhy, written, writeOut}
 use Rattle.rules.specs.Reader.{textRead, readWords, readTable}
 use Rattle.rules.specs.Program.{answerWhy, answerOut}
+use Rattle.rules.specs.Wcnf.{wcnfWriteWhy, wcnfOut}
+use Rattle.rules.specs.WcnfReader.{wcnfTable}
+use Rattle.rules.specs.WcnfProgram.{wcnfAnswerWhy, wcnfAnswerOut}
 use Rattle.rules.specs.Calls.{Call, afterCalls}
 use Rattle.step_laws.specs.Standing.{standingCalls, AllFine, NeverTen, LoadsRefused, decidedBy, trueBy}
-use Rattle.telling.specs.Told.{told, byTextRead}
+use Rattle.telling.specs.Told.{told, mostPlace, toldNear, byTextRead}
 use Rattle.demands.specs.Searches.{Finished, Stopped, InOrder, StopRule}
 use Rattle.demands.specs.Rewritings.{Rewritten, Judging}
 use Rattle.demands.specs.Lines.{ByLines}
+use Rattle.demands.specs.Competition.{readerWhy, Competition}
 use Rattle.demands.specs.Orders.{ExactlyWhen}
 
 -- ---- demand 1; its first two sentences are said of the code, in crates/promises/specs/Promises.antt
@@ -48,6 +52,9 @@ pub record Demand1 : Type 0 where
   pub accepted : (j : Judged) → (told j ≡ 0) ↔ (j ≡ Fine)
   pub number : (r : Refusal) → told (Refused r) % 256 ≡ numberOf r
   pub place : (r : Refusal) → told (Refused r) / 256 ≡ placeOf r
+  -- and of a competition file, which may have any number of lines, where there is room for the place
+  pub near : (r : Refusal) → placeOf r ≤ mostPlace → toldNear (Refused r) ≡ told (Refused r)
+  pub accepted-near : (j : Judged) → (toldNear j ≡ 0) ↔ (j ≡ Fine)
   -- "and changes no lent word or byte."
   pub load : (n : ℕ) (table : List ℕ) (c : ℕ) (d : List ℕ) → Unchanged (loadWhy n table c d) d (loadDesk n table c d)
   pub decide : (d : List ℕ) (literal : ℤ) → Unchanged (decideWhy d literal) d (decideDesk d literal)
@@ -56,6 +63,9 @@ pub record Demand1 : Type 0 where
   pub read : (text table : List ℕ) → Unchanged (byTextRead (textRead text (length table))) table (readTable text table)
   pub write : (n budget : ℕ) (table out : List ℕ) → Unchanged (writeWhy n budget table out) out (writeOut n budget table out)
   pub answer : (input output : List ℕ) → Unchanged (answerWhy input output) output (answerOut input output)
+  pub readWcnf : (text table : List ℕ) → Unchanged (readerWhy text (length table)) table (wcnfTable text table)
+  pub writeWcnf : (n : ℕ) (table out : List ℕ) → Unchanged (wcnfWriteWhy n table out) out (wcnfOut n table out)
+  pub answerWcnf : (input output : List ℕ) → Unchanged (wcnfAnswerWhy input output) output (wcnfAnswerOut input output)
 
 -- ---- demand 2
 
@@ -83,6 +93,8 @@ pub record Demand2 : Type 0 where
       → text ≡ tableText n budget table
   -- "The first line that breaks the form is the place": what the reader says of any text, by its lines
   pub byLines : ByLines
+  -- document 02, C-11
+  pub competition : Competition
 
 -- ---- demand 3
 

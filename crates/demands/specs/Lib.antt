@@ -2,4 +2,5 @@ pub mod Orders
 pub mod Searches
 pub mod Rewritings
 pub mod Lines
+pub mod Competition
 pub mod Demands

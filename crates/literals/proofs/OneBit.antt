@@ -1,21 +1,21 @@
 -- A literal's mask has one bit, that of its variable: bit v - 1 for variable v.
 -- Sizes of literals run from 1 to 64, so no bit falls off the mask, and different variables have different bits.
-use Prim.Native.Nat.{ℕ, _-_, _<_, _^_}
+use Prim.Native.Nat.{ℕ, _-_, _≤_, _<_, _^_}
 use mathlib.Core.Path.{_≡_, sym, _∙_}
-use mathlib.Core.Bool.{true}
+use mathlib.Core.Bool.{true, false, false≢true}
 use mathlib.Core.Logic.{⊎-elim}
 use native.Mathlib.Omega.{arith}
-use borrow.Author.Tests.{ne-eqb}
+use borrow.Author.Tests.{ne-eqb, eqb-false}
 use lib.Dec.{eqb}
 use lib.IntN.{ℤ}
 use lib.Pow.{pow-pos}
 use Rattle.masks.specs.Masks.{has, count}
-use Rattle.masks.proofs.Choice.{cases}
+use Rattle.masks.proofs.Choice.{cases, lt-or-le}
 use Rattle.masks.proofs.Bits.{has-pow}
-use Rattle.masks.proofs.Sets.{single-lt, single-pow, pow-inj}
+use Rattle.masks.proofs.Sets.{single-lt, single-pow, single-past, pow-inj}
 use Rattle.masks.proofs.Counts.{count-pow}
-use Rattle.literals.specs.Literal.{size, isLiteral, opposite, bitOf}
-use Rattle.literals.proofs.Opposites.{literal-sized, size-opposite}
+use Rattle.literals.specs.Literal.{mostVariables, size, isLiteral, opposite, bitOf}
+use Rattle.literals.proofs.Opposites.{literal-sized, sized-literal, size-opposite}
 
 -- a literal's bit is one of the 64
 pub place-below : (z : ℤ) → isLiteral z ≡ true → size z - 1 < 64
@@ -25,6 +25,19 @@ pub bit-literal : (z : ℤ) → isLiteral z ≡ true → bitOf z ≡ 2 ^ (size z
 unfolding bitOf
 bit-literal z h =
     rw (ne-eqb (size z) 0 (λ e. omega (arith, literal-sized z h .some))) (single-pow (size z - 1) (place-below z h))
+
+-- a number that is no literal has no bit: 0 is of no variable, and what is past the last has a place past the mask
+pub bit-other : (z : ℤ) → isLiteral z ≡ false → bitOf z ≡ 0
+unfolding bitOf
+bit-other z h =
+    ⊎-elim (λ t. rw t)
+    (λ t.
+    let some : 1 ≤ size z = omega (arith, eqb-false (size z) 0 t) in
+    let far : mostVariables < size z =
+    ⊎-elim (λ l. l) (λ l. absurd (false≢true (sym h ∙ sized-literal z (record { some = some; most = l }))))
+    (lt-or-le mostVariables (size z)) in
+    rw t (single-past (size z - 1) (omega arith)))
+    (cases (eqb (size z) 0))
 
 pub bit-below : (z : ℤ) → bitOf z < 2 ^ 64
 unfolding bitOf

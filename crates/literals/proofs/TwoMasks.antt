@@ -16,7 +16,7 @@ use Rattle.literals.specs.declared.Lits.{Lits}
 use Rattle.literals.specs.Literal.{isPositive, isLiteral, opposite, bitOf, litsOf}
 use Rattle.literals.specs.Lits.{noLits, negatedLits, together, less, variablesOf, isEmpty, sameLits}
 use Rattle.literals.proofs.Opposites.{sign-opposite, by-sign-and-size}
-use Rattle.literals.proofs.OneBit.{bit-below, bit-some, bit-opposite, bit-size}
+use Rattle.literals.proofs.OneBit.{bit-other, bit-below, bit-some, bit-opposite, bit-size}
 
 -- ---- sets are equal where their masks are
 
@@ -88,6 +88,11 @@ lits-positive z h = rw h
 pub lits-negative : (z : ℤ) → isPositive z ≡ false → litsOf z ≡ record { positive = 0; negative = bitOf z }
 unfolding litsOf
 lits-negative z h = rw h
+
+pub lits-other : (z : ℤ) → isLiteral z ≡ false → litsOf z ≡ noLits
+unfolding noLits
+lits-other z h =
+    ⊎-elim (λ t. lits-positive z t ∙ lits-ext _ _ (bit-other z h) refl) (λ t. lits-negative z t ∙ lits-ext _ _ refl (bit-other z h)) (cases (isPositive z))
 
 pub lits-opposite : (z : ℤ) → isLiteral z ≡ true → litsOf (opposite z) ≡ negatedLits (litsOf z)
 unfolding litsOf negatedLits

@@ -80,7 +80,7 @@ fn put_parting(out: &mut [u8], at: usize, first: bool) -> usize
 }
 
 // The literal on the variable with bit v, where the set has one.
-fn put_literal(out: &mut [u8], at: usize, first: bool, v: u64, l: Lits) -> usize
+pub fn put_literal(out: &mut [u8], at: usize, first: bool, v: u64, l: Lits) -> usize
     requires { ⌜ (at + mostLiteral ≤ 2 ^ 32) × (v < mostVariables) ⌝ }
     ensures { λ r. ⌜ Stored (now (out .entry)) at (literalPiece first v l) r (now (out .exit)) ⌝ }
 {

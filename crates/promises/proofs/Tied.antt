@@ -19,6 +19,9 @@ use Rattle.walk.proofs.search.Met.{met as search-met}
 use Rattle.reader.proofs.read.Met.{met as read-met}
 use Rattle.writer.proofs.write.Met.{met as write-met}
 use Rattle.answer.proofs.answer.Met.{met as answer-met}
+use Rattle.wcnf_reader.proofs.read_wcnf.Met.{met as read-wcnf-met}
+use Rattle.wcnf_writer.proofs.write_wcnf.Met.{met as write-wcnf-met}
+use Rattle.wcnf_answer.proofs.answer_wcnf.Met.{met as answer-wcnf-met}
 use Rattle.bound.proofs.Tied.{bound-tied}
 use Rattle.ties.proofs.Ties.{one-fact, two-facts, tied}
 use Rattle.promises.specs.Tied.{TiedInCode}
@@ -40,4 +43,10 @@ module _ {M : Type 1} (𝓤 : URA M) (H : Heap 𝓤) (A : Atoms 𝓤) (memory : 
             tied 𝓤 H A write-met (λ κs a. (tt, refl)) refl
             (λ κs a g x ws. two-facts 𝓤 _ _ _ (λ p q. (p, ap (λ (l : List ℕ). (tt, (tt, (tt, (l, tt))))) q)));
         answer = tied 𝓤 H A answer-met (λ κs a. (tt, refl)) refl (λ κs a g x ws. two-facts 𝓤 _ _ _ (λ p q. (p, ap (λ (l : List ℕ). (tt, (l, tt))) q)));
+        readWcnf = tied 𝓤 H A read-wcnf-met (λ κs a. (tt, refl)) refl (λ κs a g x ws. two-facts 𝓤 _ _ _ (λ p q. (p, ap (λ (l : List ℕ). (tt, (l, tt))) q)));
+        writeWcnf =
+            tied 𝓤 H A write-wcnf-met (λ κs a. (tt, refl)) refl
+            (λ κs a g x ws. two-facts 𝓤 _ _ _ (λ p q. (p, ap (λ (l : List ℕ). (tt, (tt, (l, tt)))) q)));
+        answerWcnf =
+            tied 𝓤 H A answer-wcnf-met (λ κs a. (tt, refl)) refl (λ κs a g x ws. two-facts 𝓤 _ _ _ (λ p q. (p, ap (λ (l : List ℕ). (tt, (l, tt))) q)));
       }

@@ -20,6 +20,8 @@ use Rattle.c_searches.proofs.olikumpasho_search.Met.{met as search-met}
 use Rattle.c_texts.proofs.olikumpasho_read.Met.{met as read-met}
 use Rattle.c_texts.proofs.olikumpasho_write.Met.{met as write-met}
 use Rattle.c_texts.proofs.olikumpasho_answer.Met.{met as answer-met}
+use Rattle.c_wcnf.proofs.olikumpasho_read_wcnf.Met.{met as read-wcnf-met}
+use Rattle.c_wcnf.proofs.olikumpasho_write_wcnf.Met.{met as write-wcnf-met}
 use Rattle.ties.proofs.Ties.{one-fact, two-facts, three-facts, tied}
 use Rattle.promises.specs.TiedC.{TiedInC}
 
@@ -44,4 +46,10 @@ module _ {M : Type 1} (𝓤 : URA M) (H : Heap 𝓤) (A : Atoms 𝓤) (memory : 
         answer =
             tied 𝓤 H A answer-met (λ κs a. (tt, refl)) refl
             (λ κs a g x ws. three-facts 𝓤 _ _ _ _ (λ p q r. (p, ap₂ (λ (l : List ℕ) (m : ℕ). (tt, (l, (m, tt)))) q r)));
+        readWcnf =
+            tied 𝓤 H A read-wcnf-met (λ κs a. (tt, refl)) refl
+            (λ κs a g x ws. three-facts 𝓤 _ _ _ _ (λ p q r. (p, ap₂ (λ (l : List ℕ) (m : List ℕ). (tt, (l, (m, tt)))) q r)));
+        writeWcnf =
+            tied 𝓤 H A write-wcnf-met (λ κs a. (tt, refl)) refl
+            (λ κs a g x ws. three-facts 𝓤 _ _ _ _ (λ p q r. (p, ap₂ (λ (l : List ℕ) (m : ℕ). (tt, (tt, (l, (m, tt))))) q r)));
       }

@@ -19,6 +19,9 @@ use Rattle.walk.proofs.search as search
 use Rattle.reader.proofs.read as read
 use Rattle.writer.proofs.write as write
 use Rattle.answer.proofs.answer as answer
+use Rattle.wcnf_reader.proofs.read_wcnf as readWcnf
+use Rattle.wcnf_writer.proofs.write_wcnf as writeWcnf
+use Rattle.wcnf_answer.proofs.answer_wcnf as answerWcnf
 use Rattle.rules.specs.Table.{weighed}
 use Rattle.rules.specs.Desk.{loadWhy, loadDesk, wellFormed as isWellFormed}
 use Rattle.rules.specs.Decide.{decideWhy, decideDesk}
@@ -29,6 +32,9 @@ use Rattle.rules.specs.Walk.{searched}
 use Rattle.rules.specs.Text.{written, writeOut}
 use Rattle.rules.specs.Reader.{textRead, readTable}
 use Rattle.rules.specs.Program.{answered, answerOut}
+use Rattle.rules.specs.Wcnf.{wcnfWritten, wcnfOut}
+use Rattle.rules.specs.WcnfReader.{wcnfRead, wcnfTable}
+use Rattle.rules.specs.WcnfProgram.{wcnfAnswered, wcnfAnswerOut}
 use Rattle.ties.specs.Ties.{Tied}
 
 pub record TiedInCode {M : Type 1} (𝓤 : URA M) (H : Heap 𝓤) (A : Atoms 𝓤) (memory : Memory → SProp 𝓤) (run : Routine → Fun 𝓤) : Type 2 where
@@ -56,3 +62,9 @@ pub record TiedInCode {M : Type 1} (𝓤 : URA M) (H : Heap 𝓤) (A : Atoms �
       (λ κs a. (tt, (tt, (tt, (writeOut (a .0) (a .1 .0) (now (a .1 .1 .0)) (now (a .1 .1 .1 .0)), tt)))))
   pub answer : Tied 𝓤 H A answer.ended (answer.Statement.statement M) (answer.spec 𝓤 H A memory run) (answer.clauses 𝓤 H A memory run)
       (λ κs a. answered (now (a .0)) (now (a .1 .0))) (λ κs a. (tt, (answerOut (now (a .0)) (now (a .1 .0)), tt)))
+  pub readWcnf : Tied 𝓤 H A readWcnf.ended (readWcnf.Statement.statement M) (readWcnf.spec 𝓤 H A memory run) (readWcnf.clauses 𝓤 H A memory run)
+      (λ κs a. wcnfRead (now (a .0)) (length (now (a .1 .0)))) (λ κs a. (tt, (wcnfTable (now (a .0)) (now (a .1 .0)), tt)))
+  pub writeWcnf : Tied 𝓤 H A writeWcnf.ended (writeWcnf.Statement.statement M) (writeWcnf.spec 𝓤 H A memory run) (writeWcnf.clauses 𝓤 H A memory run)
+      (λ κs a. wcnfWritten (a .0) (now (a .1 .0)) (now (a .1 .1 .0))) (λ κs a. (tt, (tt, (wcnfOut (a .0) (now (a .1 .0)) (now (a .1 .1 .0)), tt))))
+  pub answerWcnf : Tied 𝓤 H A answerWcnf.ended (answerWcnf.Statement.statement M) (answerWcnf.spec 𝓤 H A memory run) (answerWcnf.clauses 𝓤 H A memory run)
+      (λ κs a. wcnfAnswered (now (a .0)) (now (a .1 .0))) (λ κs a. (tt, (wcnfAnswerOut (now (a .0)) (now (a .1 .0)), tt)))

@@ -19,6 +19,9 @@ use Rattle.c_searches.proofs.olikumpasho_search as search
 use Rattle.c_texts.proofs.olikumpasho_read as read
 use Rattle.c_texts.proofs.olikumpasho_write as write
 use Rattle.c_texts.proofs.olikumpasho_answer as answer
+use Rattle.c_wcnf.proofs.olikumpasho_read_wcnf as readWcnf
+use Rattle.c_wcnf.proofs.olikumpasho_write_wcnf as writeWcnf
+use Rattle.telling.specs.Told.{toldNear, byWcnfRead, figuresOut}
 use Rattle.telling.specs.Told.{told, byWeighed, weightOut, byBounded, boundOut, bySearched, foundOut, byTextRead, headOut, byWritten, lengthOut}
 use Rattle.rules.specs.Table.{weighed}
 use Rattle.rules.specs.Desk.{loadWhy, loadDesk, wellFormed as isWellFormed}
@@ -30,6 +33,8 @@ use Rattle.rules.specs.Walk.{searched}
 use Rattle.rules.specs.Text.{written, writeOut}
 use Rattle.rules.specs.Reader.{textRead, readTable}
 use Rattle.rules.specs.Program.{answered, answerOut}
+use Rattle.rules.specs.Wcnf.{wcnfWritten, wcnfOut}
+use Rattle.rules.specs.WcnfReader.{wcnfRead, wcnfTable}
 use Rattle.ties.specs.Ties.{Tied}
 
 pub record TiedInC {M : Type 1} (𝓤 : URA M) (H : Heap 𝓤) (A : Atoms 𝓤) (memory : Memory → SProp 𝓤) (run : Routine → Fun 𝓤) : Type 2 where
@@ -61,3 +66,10 @@ pub record TiedInC {M : Type 1} (𝓤 : URA M) (H : Heap 𝓤) (A : Atoms 𝓤) 
   pub answer : Tied 𝓤 H A answer.ended (answer.Statement.statement M) (answer.spec 𝓤 H A memory run) (answer.clauses 𝓤 H A memory run)
       (λ κs a. told (byWritten (answered (now (a .0)) (now (a .1 .0)))))
       (λ κs a. (tt, (answerOut (now (a .0)) (now (a .1 .0)), (lengthOut (answered (now (a .0)) (now (a .1 .0))) (now (a .1 .1 .0)), tt))))
+  pub readWcnf : Tied 𝓤 H A readWcnf.ended (readWcnf.Statement.statement M) (readWcnf.spec 𝓤 H A memory run) (readWcnf.clauses 𝓤 H A memory run)
+      (λ κs a. toldNear (byWcnfRead (wcnfRead (now (a .0)) (length (now (a .1 .0))))))
+      (λ κs a. (tt, (wcnfTable (now (a .0)) (now (a .1 .0)), (figuresOut (wcnfRead (now (a .0)) (length (now (a .1 .0)))) (now (a .1 .1 .0)), tt))))
+  pub writeWcnf : Tied 𝓤 H A writeWcnf.ended (writeWcnf.Statement.statement M) (writeWcnf.spec 𝓤 H A memory run) (writeWcnf.clauses 𝓤 H A memory run)
+      (λ κs a. told (byWritten (wcnfWritten (a .0) (now (a .1 .0)) (now (a .1 .1 .0)))))
+      (λ κs a. let w = wcnfWritten (a .0) (now (a .1 .0)) (now (a .1 .1 .0)) in
+      (tt, (tt, (wcnfOut (a .0) (now (a .1 .0)) (now (a .1 .1 .0)), (lengthOut w (now (a .1 .1 .1 .0)), tt)))))

@@ -1,14 +1,13 @@
 -- The line of a reading as the bytes that are stored for it, by case, and how long it can be.
-use Prim.Native.Nat.{ℕ, _-_, _≤_, _^_}
+use Prim.Native.Nat.{ℕ, _≤_}
 use mathlib.Core.Path.{_≡_}
 use native.Mathlib.Omega.{arith}
 use lib.ListN.{length}
-use Rattle.masks.specs.Masks.{without}
 use Rattle.literals.specs.declared.Lits.{Lits}
 use Rattle.literals.specs.Literal.{mostVariables}
 use Rattle.rules.specs.declared.Best.{Best}
 use Rattle.rules.specs.Text.{bytes, line}
-use Rattle.rules.specs.Program.{readingText}
+use Rattle.rules.specs.Program.{literalsOf, readingText}
 use Rattle.text_laws.specs.Pieces.{listLine}
 use Rattle.text_laws.proofs.Pieces.{list-length}
 use Rattle.readings.specs.Line.{readingKey, noReadingLine, mostReadingLine}
@@ -17,7 +16,7 @@ pub reading-none : (n : ℕ) (b : Best) → b ≡ Best.Nothing → line "reading
 unfolding line bytes
 reading-none n b e = rw e
 
-pub reading-some : (n : ℕ) (b : Best) (w r : ℕ) (l : Lits) → b ≡ Best.Reading w r → l ≡ record { positive = r; negative = without (2 ^ n - 1) r }
+pub reading-some : (n : ℕ) (b : Best) (w r : ℕ) (l : Lits) → b ≡ Best.Reading w r → l ≡ literalsOf n r
     → line "reading=" (readingText n b) ≡ listLine readingKey n l
 unfolding line bytes
 reading-some n b w r l e f = rw (e, f)
@@ -26,5 +25,4 @@ pub reading-length : (n : ℕ) (b : Best) → n ≤ mostVariables → length (li
 unfolding line bytes
 reading-length n Best.Nothing h = omega arith
 reading-length n (Best.Reading w r) h =
-    let l : Lits = record { positive = r; negative = without (2 ^ n - 1) r } in
-    omega (arith, list-length readingKey n l)
+    omega (arith, list-length readingKey n (literalsOf n r))

@@ -1,10 +1,9 @@
 // The line of a reading, from a place far below 2^32, of at most 64 variables.
 ghost use mathlib.Core.Path.{_≡_};
 ghost use Prim.Native.Nat.{_-_, _+_, _≤_, _^_};
-ghost use Rattle.masks.specs.Masks.{without};
 ghost use Rattle.literals.specs.Literal.{mostVariables};
 ghost use Rattle.rules.specs.Text.{line};
-ghost use Rattle.rules.specs.Program.{readingText};
+ghost use Rattle.rules.specs.Program.{literalsOf, readingText};
 ghost use Rattle.pieces_written.specs.Stored.{Stored};
 ghost use Rattle.readings.specs.Line.{mostReadingLine};
 use literals::Literal;
@@ -26,9 +25,9 @@ fn first_of(n: u64) -> u64
 }
 
 // One literal for each variable.
-fn literals_of(variables: u64, reading: u64) -> Lits
+pub fn literals_of(variables: u64, reading: u64) -> Lits
     requires { ⌜ variables ≤ mostVariables ⌝ }
-    ensures { λ r. ⌜ r ≡ record { positive = reading; negative = without (2 ^ variables - 1) reading } ⌝ }
+    ensures { λ r. ⌜ r ≡ literalsOf variables reading ⌝ }
 {
     let all = first_of(variables);
     let negative = masks::without(all, reading);

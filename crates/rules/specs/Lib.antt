@@ -9,7 +9,10 @@ pub mod Bound
 pub mod Walk
 pub mod Text
 pub mod Reader
+pub mod Wcnf
+pub mod WcnfReader
 pub mod Program
+pub mod WcnfProgram
 pub mod Figures
 pub mod Calls
 pub mod Examples

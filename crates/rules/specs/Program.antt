@@ -5,19 +5,20 @@ use mathlib.Core.Bool.{cond}
 use lib.ListN.{length, drop, replicate}
 use lib.Dec.{ltb}
 use Rattle.masks.specs.Masks.{without}
+use Rattle.literals.specs.declared.Lits.{Lits}
 use Rattle.rules.specs.declared.Refusal.{Refusal}
 use Rattle.rules.specs.declared.Refusal.the-variants.{NoRoom, InputTooLong}
 use Rattle.rules.specs.declared.Judged.{Judged}
-use Rattle.rules.specs.declared.Judged.the-variants.{Fine, Refused}
 use Rattle.rules.specs.declared.Status.{Status}
 use Rattle.rules.specs.declared.Best.{Best}
 use Rattle.rules.specs.declared.Found.{Found}
+use Rattle.rules.specs.declared.Searched.{Searched}
 use Rattle.rules.specs.declared.TextRead.{TextRead}
 use Rattle.rules.specs.declared.Written.{Written}
 use Rattle.rules.specs.Refusals.{numberOf, placeOf, _when_, firstDue, unlessRefused}
 use Rattle.rules.specs.Table.{rowWords, mostRows}
 use Rattle.rules.specs.Desk.{deskWords, loadWhy, loadStep}
-use Rattle.rules.specs.Walk.{walkIn, foundBy}
+use Rattle.rules.specs.Walk.{walkIn, foundBy, searchedAs}
 use Rattle.rules.specs.Text.{bytes, numberText, line, litsText, writtenAs}
 use Rattle.rules.specs.Reader.{textRead, readWords}
 
@@ -37,11 +38,14 @@ abbrev pub weightText : Best → List ℕ
 weightText Best.Nothing = bytes "none"
 weightText (Best.Reading weight reading) = numberText weight
 
+-- "one literal for each variable"
+abbrev pub literalsOf : ℕ → ℕ → Lits
+literalsOf variables reading = record { positive = reading; negative = without (2 ^ variables - 1) reading }
+
 -- "`reading=` holds one literal for each variable"
 abbrev pub readingText : ℕ → Best → List ℕ
 readingText variables Best.Nothing = bytes "none"
-readingText variables (Best.Reading weight reading) =
-    litsText variables (record { positive = reading; negative = without (2 ^ variables - 1) reading })
+readingText variables (Best.Reading weight reading) = litsText variables (literalsOf variables reading)
 
 unfoldable pub foundText : ℕ → Found → List ℕ
 foundText variables f =
@@ -50,19 +54,23 @@ foundText variables f =
     ++ (line "nodes=" (numberText (f .nodes))
     ++ line "reading=" (readingText variables (f .best))))
 
+-- the lines of what a search of so many variables came to
+abbrev pub searchedText : ℕ → Searched → List ℕ
+searchedText variables (Searched.Found found) = foundText variables found
+searchedText variables (Searched.Refused r) = refusalText r
+
 -- the desk of the program: as many rows as the table has, and no more
 unfoldable pub programDesk : ℕ → ℕ → List ℕ → List ℕ
 programDesk variables m table = loadStep variables table m (replicate (deskWords m) 0)
 
-abbrev pub loadedAnswer : Judged → List ℕ → List ℕ
-loadedAnswer Fine found = found
-loadedAnswer (Refused r) found = refusalText r
+-- what a table of m rows comes to, whatever text it was read from: the search of that desk, or load's refusal
+abbrev pub tableSearched : ℕ → ℕ → ℕ → List ℕ → Searched
+tableSearched variables budget m table =
+    let d = programDesk variables m table in
+    searchedAs (loadWhy variables table m (replicate (deskWords m) 0)) (foundBy (walkIn d budget))
 
 abbrev pub readAnswer : List ℕ → TextRead → List ℕ
-readAnswer table (TextRead.Table variables budget m) =
-    let d = programDesk variables m table in
-    let found = foundText variables (foundBy (walkIn d budget)) in
-    loadedAnswer (loadWhy variables table m (replicate (deskWords m) 0)) found
+readAnswer table (TextRead.Table variables budget m) = searchedText variables (tableSearched variables budget m table)
 readAnswer table (TextRead.Refused r) = refusalText r
 
 -- Program: 19, reader, load.

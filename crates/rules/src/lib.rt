@@ -106,6 +106,8 @@ pub enum Refusal {
     InputTooLong,
     // The line.
     BadText(u64),
+    // The clause.
+    WeightAtTop(u64),
 }
 
 // A refusal's number and place.
@@ -181,6 +183,24 @@ pub enum TextRead {
         budget: u64,
         rows: u64,
     },
+    Refused(Refusal),
+}
+
+// What the header of a competition file says, with the place behind it and its line, or the first line that breaks the form.
+pub enum WcnfHead {
+    Figures {
+        variables: u64,
+        clauses: u64,
+        top: u64,
+        next: usize,
+        line: u64,
+    },
+    Broken(u64),
+}
+
+// What a competition file says beside its clauses, or why it is refused.
+pub enum WcnfRead {
+    Table { variables: u64, rows: u64 },
     Refused(Refusal),
 }
 

@@ -12,7 +12,7 @@ use Rattle.literals.specs.Literal.{mostVariables}
 use Rattle.rules.specs.declared.Refusal.{Refusal}
 use Rattle.rules.specs.declared.Refusal.the-variants.{TooManyVariables, BadTable, BadCapacity, NoRoom, BadLiterals, BadWeight, SumTooLarge}
 use Rattle.rules.specs.declared.Refusal.the-variants.{BadReading, BadBudget, BadDesk, TooManySteps, BadLiteral, BadNaming, BadFit, DeskFull}
-use Rattle.rules.specs.declared.Refusal.the-variants.{NothingStands, InputTooLong, BadText}
+use Rattle.rules.specs.declared.Refusal.the-variants.{NothingStands, InputTooLong, BadText, WeightAtTop}
 use Rattle.rules.specs.declared.Judged.{Judged}
 use Rattle.rules.specs.declared.Judged.the-variants.{Fine, Refused}
 use Rattle.rules.specs.declared.Parsed.{Parsed}
@@ -32,6 +32,7 @@ use Rattle.rules.specs.TakeBack.{badLast, takeBackWhy}
 use Rattle.rules.specs.Bound.{bound, deskWhy, boundedAs, bounded}
 use Rattle.rules.specs.Walk.{mostBudget, walkIn, foundBy, searchedAs, searched}
 use Rattle.rules.specs.Text.{bytes, tableText, writeWhy, writtenAs, written}
+use Rattle.rules.specs.Wcnf.{wcnfText, wcnfWriteWhy, wcnfWritten}
 use Rattle.rules.specs.Reader.{firstRowLine, rowLines}
 use Rattle.rules.specs.Program.{answer, answerWhy, answered}
 use Rattle.rules.specs.Reader.{RowsRead, rows, brokenAt, numberLine, litsLine, onNumber, rowBy, onRow}
@@ -62,6 +63,7 @@ number-small DeskFull = (omega arith, omega arith)
 number-small NothingStands = (omega arith, omega arith)
 number-small InputTooLong = (omega arith, omega arith)
 number-small (BadText line) = (omega arith, omega arith)
+number-small (WeightAtTop clause) = (omega arith, omega arith)
 
 pub as-small : {j k : Judged} → j ≡ k → Small k → Small j
 as-small e s = rw e s
@@ -190,6 +192,18 @@ written-small n budget table out =
     _
     (table-small n table)
     (refuse-small (ltb (length out) (length (tableText n budget table))) NoRoom Fine (omega arith) (λ _. omega arith)))
+
+pub wcnf-written-small : (n : ℕ) (table out : List ℕ) → Small (byWritten (wcnfWritten n table out))
+unfolding wcnfWritten wcnfWriteWhy
+wcnf-written-small n table out =
+    as-written
+    (wcnfWriteWhy n table out)
+    _
+    (order-small
+    (tableWhy n table)
+    _
+    (table-small n table)
+    (refuse-small (ltb (length out) (length (wcnfText n table))) NoRoom Fine (omega arith) (λ _. omega arith)))
 
 pub answered-small : (input output : List ℕ) → Small (byWritten (answered input output))
 unfolding answered answerWhy

@@ -1,6 +1,6 @@
 -- What a caller in C is told: a number, and what else there is to say in words lent for it, which are written where the call was accepted
 -- and are else as found.
-use Prim.Native.Nat.{ℕ, _+_, _*_}
+use Prim.Native.Nat.{ℕ, _+_, _-_, _*_, _^_, min}
 use mathlib.Core.List.{List, [], _∷_}
 use Rattle.rules.specs.declared.Judged.{Judged}
 use Rattle.rules.specs.declared.Judged.the-variants.{Fine, Refused}
@@ -11,6 +11,7 @@ use Rattle.rules.specs.declared.Weighed.{Weighed}
 use Rattle.rules.specs.declared.Bounded.{Bounded}
 use Rattle.rules.specs.declared.Searched.{Searched}
 use Rattle.rules.specs.declared.TextRead.{TextRead}
+use Rattle.rules.specs.declared.WcnfRead.{WcnfRead}
 use Rattle.rules.specs.declared.Written.{Written}
 use Rattle.rules.specs.Refusals.{numberOf, placeOf}
 
@@ -18,6 +19,15 @@ use Rattle.rules.specs.Refusals.{numberOf, placeOf}
 abbrev pub told : Judged → ℕ
 told Fine = 0
 told (Refused r) = numberOf r + 256 * placeOf r
+
+-- the last place for which there is room above the low byte
+abbrev pub mostPlace : ℕ
+mostPlace = 2 ^ 56 - 1
+
+-- a competition file has any number of lines: a place past the last for which there is room is told as that
+abbrev pub toldNear : Judged → ℕ
+toldNear Fine = 0
+toldNear (Refused r) = numberOf r + 256 * min (placeOf r) mostPlace
 
 abbrev pub byWeighed : Weighed → Judged
 byWeighed (Weighed.Weight w) = Fine
@@ -62,6 +72,14 @@ byTextRead (TextRead.Refused r) = Refused r
 abbrev pub headOut : TextRead → List ℕ → List ℕ
 headOut (TextRead.Table variables budget rows) found = variables ∷ budget ∷ rows ∷ []
 headOut (TextRead.Refused r) found = found
+
+abbrev pub byWcnfRead : WcnfRead → Judged
+byWcnfRead (WcnfRead.Table variables rows) = Fine
+byWcnfRead (WcnfRead.Refused r) = Refused r
+
+abbrev pub figuresOut : WcnfRead → List ℕ → List ℕ
+figuresOut (WcnfRead.Table variables rows) found = variables ∷ rows ∷ []
+figuresOut (WcnfRead.Refused r) found = found
 
 abbrev pub byWritten : Written → Judged
 byWritten (Written.Bytes n) = Fine

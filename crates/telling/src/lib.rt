@@ -1,9 +1,11 @@
 // How a caller in C is told what a call came to: a judgement as one number, and what a search found as five words.
 ghost use mathlib.Core.Path.{_≡_};
-ghost use Rattle.telling.specs.Told.{statusWord, foundWords};
+ghost use Rattle.telling.specs.Told.{toldNear, statusWord, foundWords};
 use rules::Best;
 use rules::Found;
+use rules::Judged;
 use rules::Status;
+use values::numbered;
 
 pub mod inner;
 
@@ -17,6 +19,26 @@ pub fn found_words(f: Found) -> [u64; 5]
     match best {
         Best::Nothing => [status, 0, 0, 0, f.nodes],
         Best::Reading { weight, reading } => [status, 1, weight, reading, f.nodes],
+    }
+}
+
+// The last place for which there is room above the low byte.
+const MOST_PLACE: u64 = 72_057_594_037_927_935;
+
+// A judgement as one number, whatever its place.
+pub fn tell_near(j: Judged) -> u64
+    ensures { λ r. ⌜ r ≡ toldNear j ⌝ }
+{
+    match j {
+        Judged::Fine => 0,
+        Judged::Refused(why) => {
+            let told = numbered(why);
+            if told.1 < MOST_PLACE {
+                told.0 + 256 * told.1
+            } else {
+                told.0 + 256 * MOST_PLACE
+            }
+        }
     }
 }
 

@@ -25,8 +25,8 @@ use Rattle.rules.specs.Reader.{rowLines}
 use Rattle.rules.specs.Reader.{stands, numberLine, litsLine, RowsRead, rows, brokenAt, inFront, rowsAt}
 use Rattle.text_laws.specs.Pieces.{lineText, listText}
 use Rattle.text_laws.specs.Keys.{weightKey, litsKey}
-use Rattle.text_laws.specs.Lines.{Line, ended, missing, firstLine, firstLines, RowHeld}
-use Rattle.text_laws.proofs.Cuts.{NoFeed, no-feed-append, number-no-feed, lits-no-feed, lines-ended, missing-is, LineAt, line-at, at-line}
+use Rattle.text_laws.specs.Lines.{Line, ended, missing, firstLine, firstLines, NoFeed, RowHeld}
+use Rattle.text_laws.proofs.Cuts.{no-feed-append, number-no-feed, lits-no-feed, lines-ended, missing-is, LineAt, line-at, at-line}
 use Rattle.text_laws.proofs.Pieces.{row-text}
 use Rattle.text_laws.proofs.RowWords.{row-words}
 use Rattle.text_laws.proofs.Lines.{line-reads, line-found}

@@ -14,14 +14,10 @@ use Rattle.masks.proofs.Choice.{impossible}
 use Rattle.literals.specs.declared.Lits.{Lits}
 use Rattle.rules.specs.Text.{lineFeed, space, minus, digitZero, mostDigits, digits, numberText, behind, litsText}
 use Rattle.rules.specs.Reader.{stands}
-use Rattle.text_laws.specs.Lines.{Line, ended, unended, missing, inFrontOf, firstLine, pastLine, firstLines, lineAt}
+use Rattle.text_laws.specs.Lines.{Line, ended, unended, missing, inFrontOf, firstLine, pastLine, firstLines, lineAt, NoFeed}
 use Rattle.text_laws.proofs.Stands.{stands-of, second-stands, front-byte, behind-byte, inside}
 
 -- ---- bytes without LF
-
-abbrev pub NoFeed : List ℕ → Type 0
-NoFeed [] = Unit
-NoFeed (b ∷ s) = (eqb b lineFeed ≡ false) × NoFeed s
 
 pub no-feed-append : (a b : List ℕ) → NoFeed a → NoFeed b → NoFeed (a ++ b)
 no-feed-append [] b p q = q

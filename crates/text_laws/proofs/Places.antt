@@ -19,8 +19,8 @@ use Rattle.rules.specs.Reader.{firstRowLine, rowLines}
 use Rattle.rules.specs.Reader.{stands, numberLine, headAt, RowsRead, rows, brokenAt, rowsAt, restWhy, wordsOf}
 use Rattle.text_laws.specs.Pieces.{lineText}
 use Rattle.text_laws.specs.Keys.{varsKey, budgetKey, rowsKey}
-use Rattle.text_laws.specs.Lines.{Line, ended, firstLine, firstLines, lineAt, RowHeld, Held, InForm, FirstBroken}
-use Rattle.text_laws.proofs.Cuts.{NoFeed, fewer-lines, lines-more, stands-of-drop}
+use Rattle.text_laws.specs.Lines.{NoFeed, Line, ended, firstLine, firstLines, lineAt, RowHeld, Held, InForm, FirstBroken}
+use Rattle.text_laws.proofs.Cuts.{fewer-lines, lines-more, stands-of-drop}
 use Rattle.text_laws.proofs.Lines.{line-found}
 use Rattle.text_laws.proofs.Branches.{head-no-vars, head-no-budget, head-no-rows, head-is}
 use Rattle.text_laws.proofs.Heads.{headText, headEnd, head-length, table-text, head-reads}

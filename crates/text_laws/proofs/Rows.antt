@@ -116,7 +116,7 @@ unfoldable pub rowsFrom : ℕ → ℕ → List ℕ → List ℕ
 rowsFrom zero i table = []
 rowsFrom (suc d) i table = rowText (rowOf table i) ++ rowsFrom d (suc i) table
 
-wordsFrom : ℕ → ℕ → List ℕ → List ℕ
+unfoldable pub wordsFrom : ℕ → ℕ → List ℕ → List ℕ
 wordsFrom zero i table = []
 wordsFrom (suc d) i table = rowWordsOf (rowOf table i) ++ wordsFrom d (suc i) table
 
@@ -139,7 +139,7 @@ words-drop (suc d) i table e =
     let more : rowWords * suc i ≡ rowWords * i + rowWords = omega arith in
     rw (words-drop d (suc i) table (omega arith), more, row-drop table (rowWords * i) (omega arith))
 
-words-all : (m : ℕ) (table : List ℕ) → length table ≡ rowWords * m → wordsFrom m 0 table ≡ table
+pub words-all : (m : ℕ) (table : List ℕ) → length table ≡ rowWords * m → wordsFrom m 0 table ≡ table
 words-all m table e = words-drop m 0 table (omega arith)
 
 -- rows that are read one by one
@@ -168,7 +168,7 @@ pub first-row : (row : Row) (more : List ℕ) → rowOf (rowWordsOf row ++ more)
 unfolding rowOf
 first-row row more = row-front row more
 
-later-row : (row : Row) (more : List ℕ) (i : ℕ) → rowOf (rowWordsOf row ++ more) (suc i) ≡ rowOf more i
+pub later-row : (row : Row) (more : List ℕ) (i : ℕ) → rowOf (rowWordsOf row ++ more) (suc i) ≡ rowOf more i
 unfolding rowOf
 later-row row more i =
     let next : rowWords * suc i ≡ rowWords + rowWords * i = omega arith in

@@ -3,7 +3,7 @@
 use Prim.Native.Nat.{ℕ, zero, suc, _*_, _^_, _<_}
 use mathlib.Core.Path.{_≡_}
 use mathlib.Core.List.{List, [], _∷_}
-use mathlib.Core.Bool.{cond}
+use mathlib.Core.Bool.{false, cond}
 use lib.ListN.{length}
 use lib.Dec.{eqb}
 use lib.Bits.{bitAnd}
@@ -43,6 +43,11 @@ unfoldable pub lineAt : ℕ → List ℕ → Line
 lineAt zero s = missing
 lineAt (suc zero) s = firstLine s
 lineAt (suc (suc k)) s = lineAt (suc k) (pastLine s)
+
+-- bytes that are within one line
+abbrev pub NoFeed : List ℕ → Type 0
+NoFeed [] = Unit
+NoFeed (b ∷ s) = (eqb b lineFeed ≡ false) × NoFeed s
 
 -- ---- the form
 

@@ -4,7 +4,7 @@ ghost use Rattle.rules.specs.Refusals.{numbered};
 use rules::Numbered;
 use rules::Refusal;
 
-// The place is the row or the line; 0 where there is none.
+// The place is the row, the line or the clause; 0 where there is none.
 pub fn numbered(why: Refusal) -> Numbered
     ensures { λ r. ⌜ r ≡ numbered why ⌝ }
 {
@@ -27,5 +27,6 @@ pub fn numbered(why: Refusal) -> Numbered
         Refusal::NothingStands => Numbered(16, 0),
         Refusal::InputTooLong => Numbered(19, 0),
         Refusal::BadText(line) => Numbered(20, line),
+        Refusal::WeightAtTop(clause) => Numbered(21, clause),
     }
 }

@@ -1,0 +1,28 @@
+// From input to outcome: 19, the reader, load, then the search on a desk with room for just the rows that were read. The text is read
+// into the words that the rows have on that desk.
+ghost use Rattle.rules.specs.Program.{searchedText, answer};
+ghost use Rattle.outcomes.specs.Outcomes.{Says};
+use outcomes::Outcome;
+use outcomes::WORDS;
+use outcomes::inner::search_read;
+use outcomes::refused;
+use rules::Desk;
+use rules::Refusal;
+use rules::TextRead;
+
+pub fn outcome_of(input: &[u8]) -> Outcome
+    ensures { λ r. ⌜ Says searchedText r (answer (now (input .entry))) ⌝ }
+{
+    if input.len() > TextRead::MOST_INPUT {
+        return refused(Refusal::InputTooLong);
+    }
+    let mut words = [0u64; WORDS];
+    match reader::read(input, &mut words[Desk::HEAD..]) {
+        TextRead::Refused(why) => refused(why),
+        TextRead::Table {
+            variables,
+            budget,
+            rows,
+        } => search_read(variables, budget as u32, rows, &mut words),
+    }
+}

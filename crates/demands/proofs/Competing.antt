@@ -1,0 +1,85 @@
+-- What is promised of competition files, of the laws of their text.
+use Prim.Native.Nat.{ℕ, _≤_}
+use mathlib.Core.Path.{_≡_, refl, sym, subst, _∙_}
+use mathlib.Core.List.{List, _++_}
+use borrow.Author.Tests.{le-ltb}
+use lib.ListN.{length, drop}
+use Rattle.rules.specs.declared.Judged.{Judged}
+use Rattle.rules.specs.declared.Judged.the-variants.{Fine, Refused}
+use Rattle.rules.specs.declared.WcnfHead.{WcnfHead}
+use Rattle.rules.specs.declared.WcnfRead.{WcnfRead}
+use Rattle.rules.specs.declared.Written.{Written}
+use Rattle.rules.specs.Table.{rowCount, tableWhy}
+use Rattle.rules.specs.Wcnf.{wcnfText, wcnfWriteWhy, wcnfWritten, wcnfOut}
+use Rattle.rules.specs.WcnfReader.{headerOf, headerWhy, wcnfReadWhy, wcnfWords, wcnfReadAs, wcnfRead, wcnfTable}
+use Rattle.rules.proofs.Judging.{words-fine}
+use Rattle.wcnf_laws.specs.Form.{Form, Held, formText}
+use Rattle.wcnf_laws.specs.Given.{Given, Exactly}
+use Rattle.wcnf_laws.specs.Rows.{Laid}
+use Rattle.wcnf_laws.proofs.Exact.{exactly}
+use Rattle.wcnf_laws.proofs.Says.{figured, same-read}
+use Rattle.wcnf_laws.proofs.RowsSaid.{table-says}
+use Rattle.wcnf_laws.proofs.Trip.{read-back}
+use Rattle.telling.specs.Told.{byWcnfRead}
+use Rattle.demands.specs.Competition.{readerWhy, Competition}
+
+-- the reader answers as it judges
+pub says-judged : (s : List ℕ) (room : ℕ) → readerWhy s room ≡ wcnfReadWhy s room
+unfolding wcnfRead wcnfReadWhy
+says-judged s room = by-header (headerOf s)
+  where
+    accepted : (j : Judged) (v m t next line : ℕ) → byWcnfRead (wcnfReadAs j (WcnfHead.Figures v m t next line)) ≡ j
+    accepted Fine v m t next line = refl
+    accepted (Refused r) v m t next line = refl
+
+    by-header : (h : WcnfHead) → byWcnfRead (wcnfReadAs (headerWhy s room h) h) ≡ headerWhy s room h
+    by-header (WcnfHead.Figures v m t next line) = accepted (headerWhy s room (WcnfHead.Figures v m t next line)) v m t next line
+    by-header (WcnfHead.Broken line) = refl
+
+file-writes : (n : ℕ) (table out : List ℕ) → tableWhy n table ≡ Fine → length (wcnfText n table) ≤ length out
+    → (wcnfWritten n table out ≡ Written.Bytes (length (wcnfText n table)))
+    × (wcnfOut n table out ≡ wcnfText n table ++ drop (length (wcnfText n table)) out)
+unfolding wcnfWritten wcnfOut wcnfWriteWhy
+file-writes n table out fine room =
+    let fits = le-ltb (length out) (length (wcnfText n table)) room in
+    (rw (fine, fits), rw (fine, fits))
+
+module _ (f : Form) (lent : List ℕ) (held : Held f) (fine : wcnfReadWhy (formText f) (length lent) ≡ Fine) where
+  file-answers : wcnfRead (formText f) (length lent) ≡ WcnfRead.Table (f .header .variables) (f .header .clauses)
+  unfolding wcnfRead
+  file-answers = rw (fine, figured (formText f) f held refl .header)
+
+  file-laid : Laid f lent (wcnfTable (formText f) lent)
+  unfolding wcnfTable
+  file-laid =
+      let words = wcnfWords (formText f) in
+      record {
+        words = words;
+        says = table-says f held;
+        laid = words-fine (wcnfReadWhy (formText f) (length lent)) (words ++ drop (length words) lent) lent fine;
+      }
+
+says-exactly : Exactly readerWhy
+says-exactly =
+    record {
+      given = λ s room. subst (Given s room) (sym (says-judged s room)) (exactly .given s room);
+      nothingElse = λ s room j g. says-judged s room ∙ exactly .nothingElse s room j g;
+      firstLine = λ s room k e. exactly .firstLine s room k (sym (says-judged s room) ∙ e);
+      endsEarly = exactly .endsEarly;
+      nothingFollows = exactly .nothingFollows;
+    }
+
+pub competition : Competition
+competition =
+    record {
+      writes = file-writes;
+      readsBack = λ n table lent fine room.
+          let back = read-back n table fine in
+          (back .answer (length lent) room, back .lent lent room);
+      exactly = says-exactly;
+      makes = λ f lent held fine.
+          let why = sym (says-judged (formText f) (length lent)) ∙ fine in
+          (file-answers f lent held why, file-laid f lent held why);
+      same = λ f g lent p q only here there.
+          same-read f g p q only .table lent (sym (says-judged (formText f) (length lent)) ∙ here) (sym (says-judged (formText g) (length lent)) ∙ there);
+    }

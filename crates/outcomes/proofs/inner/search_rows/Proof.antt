@@ -1,0 +1,57 @@
+-- `search_rows` meets its contract: rows are refused as any table, and what is loaded can be read.
+use borrow.Author.Needs.{needs}
+use Rattle.outcomes.proofs.Searching.{not-loaded, front-readable, loaded}
+use Rattle.outcomes.proofs.inner.search_rows.Statement.{statement}
+use Rattle.outcomes.proofs.inner.search_rows.Tie as tie
+
+load-front-requires : tie.Need-load-front-requires
+load-front-requires c κs = search needs
+
+enum-known-why : tie.Need-enum-known-why
+enum-known-why c = search needs
+
+enum-told : tie.Need-enum-told
+enum-told c = search needs
+
+found-on-requires : tie.Need-found-on-requires
+found-on-requires c κs =
+    let judged = c .before .before .before .before .before in
+    let s = judged .before .before .before in
+    let a = s .args in
+    let says = judged .load-front .ensures in
+    front-readable (a .variables) (a .budget) (a .rows) (a .words .now) (s .pre) _ _ (says .0) (c .before .enum-told .given .1) (says .1)
+
+same-length : tie.Need-same-length
+same-length c = search needs
+
+returns : tie.Need-returns
+returns c =
+    let judged = c .before .before .before .before .before in
+    let s = judged .before .before .before in
+    let a = s .args in
+    not-loaded (a .variables) (a .budget) (a .rows) (a .words .now) (s .pre) _ _ (judged .load-front .ensures .0) (c .before .why .given .1)
+
+same-length-2 : tie.Need-same-length-2
+same-length-2 c = search needs
+
+returns-2 : tie.Need-returns-2
+returns-2 c =
+    let judged = c .before .before .before .before .before .before in
+    let s = judged .before .before .before in
+    let a = s .args in
+    let says = judged .load-front .ensures in
+    loaded (a .variables) (a .budget) (a .rows) (a .words .now) (s .pre) _ _ (says .0) (c .before .before .enum-told .given .1) (says .1) _
+    (c .found-on .ensures)
+
+pub search-rows-spec : {M : Type 1} → statement M
+search-rows-spec =
+    tie.close
+    (tie.spec
+    load-front-requires
+    enum-known-why
+    enum-told
+    found-on-requires
+    same-length
+    returns
+    same-length-2
+    returns-2)

@@ -1,0 +1,17 @@
+pub mod Gaps
+pub mod ClauseLines
+pub mod HeaderLines
+pub mod RestLines
+pub mod RestJudged
+pub mod Shapes
+pub mod Ends
+pub mod Orders
+pub mod Members
+pub mod Says
+pub mod Literals
+pub mod Faults
+pub mod RowsSaid
+pub mod Exact
+pub mod Trip
+pub mod Examples
+pub mod Found

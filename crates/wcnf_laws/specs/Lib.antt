@@ -1,0 +1,9 @@
+pub mod Members
+pub mod Form
+pub mod Given
+pub mod Order
+pub mod Same
+pub mod Said
+pub mod Rows
+pub mod Back
+pub mod Examples

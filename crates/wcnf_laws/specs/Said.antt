@@ -1,0 +1,35 @@
+-- Two texts that say the same, in the reader's own words: its header, and its clauses in the order in which they stand.
+use Prim.Native.Nat.{ℕ, zero, suc}
+use mathlib.Core.Path.{_≡_}
+use mathlib.Core.List.{List, [], _∷_}
+use lib.IntN.{ℤ}
+use lib.ListN.{length}
+use Rattle.rules.specs.declared.WcnfHead.{WcnfHead}
+use Rattle.rules.specs.declared.Judged.the-variants.{Fine}
+use Rattle.rules.specs.WcnfReader.{onClause, headerOf, wcnfReadWhy, wcnfWords, wcnfRead, wcnfTable}
+use Rattle.wcnf_laws.specs.Members.{SameClauses}
+
+-- the clauses of m lines from a place on: of each its weight and its members, in the order in which they stand
+unfoldable pub clausesAt : ℕ → List ℕ → ℕ → List (ℕ × List ℤ)
+clausesAt zero s at = []
+clausesAt (suc m) s at = onClause s at [] (λ w ls next. (w, ls) ∷ clausesAt m s next)
+
+-- Two texts say the same: the same figures but for top, and the same clauses. Comments and spaces are none of it.
+pub record SaysSame (s t : List ℕ) : Type 0 where
+  pub variables : ℕ
+  pub clauses : ℕ
+  pub top-here : ℕ
+  pub top-there : ℕ
+  pub next-here : ℕ
+  pub next-there : ℕ
+  pub line-here : ℕ
+  pub line-there : ℕ
+  pub here : headerOf s ≡ WcnfHead.Figures variables clauses top-here next-here line-here
+  pub there : headerOf t ≡ WcnfHead.Figures variables clauses top-there next-there line-there
+  pub same : SameClauses (clausesAt clauses s next-here) (clausesAt clauses t next-there)
+
+-- where both are accepted, they are answered alike and leave the same words
+pub record SameRead (s t : List ℕ) : Type 0 where
+  pub words : wcnfWords s ≡ wcnfWords t
+  pub answer : (room : ℕ) → wcnfReadWhy s room ≡ Fine → wcnfReadWhy t room ≡ Fine → wcnfRead s room ≡ wcnfRead t room
+  pub table : (lent : List ℕ) → wcnfReadWhy s (length lent) ≡ Fine → wcnfReadWhy t (length lent) ≡ Fine → wcnfTable s lent ≡ wcnfTable t lent

@@ -1,0 +1,1 @@
+// Laws of competition files, over the definitions. There is no code here.

@@ -1,0 +1,50 @@
+-- `put_statement` meets its contract: a line for each case.
+use borrow.Author.Needs.{needs}
+use Rattle.wcnf_lines.proofs.Written.{statement-done, statement-stopped}
+use Rattle.wcnf_lines.proofs.inner.put_statement.Statement.{statement}
+use Rattle.wcnf_lines.proofs.inner.put_statement.Tie as tie
+
+enum-told : tie.Need-enum-told
+enum-told c = search needs
+
+slice-aggregate-put-key : tie.Need-slice-aggregate-put-key
+slice-aggregate-put-key c = search needs
+
+put-key-requires : tie.Need-put-key-requires
+put-key-requires c κs = search needs
+
+enum-told-2 : tie.Need-enum-told-2
+enum-told-2 c = search needs
+
+slice-aggregate-put-key-2 : tie.Need-slice-aggregate-put-key-2
+slice-aggregate-put-key-2 c = search needs
+
+put-key-requires-2 : tie.Need-put-key-requires-2
+put-key-requires-2 c κs = search needs
+
+same-length : tie.Need-same-length
+same-length c = search needs
+
+returns : tie.Need-returns
+returns c = rw (statement-done _ (c .before .before .before .before .before .enum-told .given .1)) (c .before .before .put-key .ensures)
+
+same-length-2 : tie.Need-same-length-2
+same-length-2 c = search needs
+
+returns-2 : tie.Need-returns-2
+returns-2 c = rw (statement-stopped _ (c .before .before .before .before .before .enum-told2 .given .1)) (c .before .before .put-key2 .ensures)
+
+pub put-statement-spec : {M : Type 1} → statement M
+put-statement-spec =
+    tie.close
+    (tie.spec
+    enum-told
+    slice-aggregate-put-key
+    put-key-requires
+    enum-told-2
+    slice-aggregate-put-key-2
+    put-key-requires-2
+    same-length
+    returns
+    same-length-2
+    returns-2)
