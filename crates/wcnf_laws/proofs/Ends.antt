@@ -12,7 +12,8 @@ use Rattle.text_laws.proofs.Cuts.{lines-ended, past-ended, missing-is, lines-mo
 use Rattle.wcnf_laws.specs.Form.{ClauseLine, clauseBytes, HeaderLine, headerBytes, commentBytes, Form, linesText, underComments, formText}
 use Rattle.wcnf_laws.specs.Form.{Each, ClauseHeld, HeaderHeld, Held, FirstBroken}
 use Rattle.wcnf_laws.proofs.ClauseLines.{clause-no-feed}
-use Rattle.wcnf_laws.proofs.HeaderLines.{comment-no-feed, header-no-feed}
+use Rattle.wcnf_laws.proofs.HeaderLines.{header-no-feed}
+use Rattle.wcnf_laws.proofs.CommentLines.{comment-no-feed}
 use Rattle.wcnf_laws.proofs.RestLines.{Here, here, lines-front, RestBroken}
 use Rattle.wcnf_laws.proofs.Shapes.{formOf, comment-then, header-then}
 

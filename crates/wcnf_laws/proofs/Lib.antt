@@ -1,6 +1,7 @@
 pub mod Gaps
 pub mod ClauseLines
 pub mod HeaderLines
+pub mod CommentLines
 pub mod RestLines
 pub mod RestJudged
 pub mod Shapes

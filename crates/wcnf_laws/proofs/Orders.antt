@@ -27,7 +27,8 @@ use Rattle.wcnf_laws.specs.Form.{HeaderLine, headerBytes, commentBytes, 
 use Rattle.wcnf_laws.specs.Form.{Each, HeaderHeld, Held, FirstBroken, clausesSaid}
 use Rattle.wcnf_laws.specs.Order.{faultsFirst, Shape, whole, headless, cut, judgedBy, dueBefore}
 use Rattle.wcnf_laws.specs.Given.{figuresFirst}
-use Rattle.wcnf_laws.proofs.HeaderLines.{begins, header-front, comment-no-feed, header-no-feed, header-read, comment-read, no-comment}
+use Rattle.wcnf_laws.proofs.HeaderLines.{header-front, header-no-feed, header-read}
+use Rattle.wcnf_laws.proofs.CommentLines.{begins, comment-no-feed, comment-read, no-comment}
 use Rattle.wcnf_laws.proofs.RestLines.{Here, here, here-tail, here-front, blank, blank-long, blank-held}
 use Rattle.wcnf_laws.proofs.RestJudged.{ends-judged, breaks-judged}
 use Rattle.wcnf_laws.proofs.Shapes.{form, formOf, begins-front, comment-back, HeadShape, comment, header, neither, head-shape}

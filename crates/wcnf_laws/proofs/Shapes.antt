@@ -18,8 +18,9 @@ use Rattle.text_laws.proofs.Cuts.{lines-ended, fewer-lines}
 use Rattle.wcnf_laws.specs.Form.{ClauseLine, HeaderLine, headerBytes, commentBytes, Form, linesText, underComments, formText}
 use Rattle.wcnf_laws.specs.Form.{Each, ClauseHeld, HeaderHeld, Held, InForm, FirstBroken}
 use Rattle.wcnf_laws.specs.Order.{Shape, whole, headless, cut}
-use Rattle.wcnf_laws.proofs.HeaderLines.{cCode, begins, comment-bytes, header-front, comment-no-feed, header-no-feed, header-read, header-found}
-use Rattle.wcnf_laws.proofs.HeaderLines.{comment-found, comment-passed, comment-unended, no-comment, own-line, feed-is}
+use Rattle.wcnf_laws.proofs.HeaderLines.{header-front, header-no-feed, header-read, header-found, own-line}
+use Rattle.wcnf_laws.proofs.CommentLines.{cCode, begins, comment-bytes, comment-no-feed, no-comment, feed-is}
+use Rattle.wcnf_laws.proofs.CommentLines.{comment-found, comment-passed, comment-unended}
 use Rattle.wcnf_laws.proofs.RestLines.{Here, here, here-front, found-here}
 use Rattle.wcnf_laws.proofs.RestLines.{RestBroken, RestShape, ends, breaks, rest-shape}
 
