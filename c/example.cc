@@ -20,11 +20,11 @@ public:
         accepted(olikumpasho_load(variables, table.data(), table.size(), capacity, words.data(), words.size()));
     }
     void decide(int64_t literal) { accepted(olikumpasho_decide(words.data(), words.size(), literal)); }
-    uint64_t bound() const
+    std::vector<uint64_t> bound() const
     {
-        uint64_t least;
-        accepted(olikumpasho_bound(words.data(), words.size(), &least));
-        return least;
+        std::vector<uint64_t> losses(OLIKUMPASHO_LOSSES_WORDS);
+        accepted(olikumpasho_bound(words.data(), words.size(), losses.data()));
+        return losses;
     }
     std::vector<uint64_t> search(uint32_t budget) const
     {
@@ -37,14 +37,16 @@ public:
 int main()
 {
     try {
-        if (Desk(0, {}, 0).bound() != 0) return 1; // no variables and no rows
+        if (Desk(0, {}, 0).bound() != std::vector<uint64_t>{0, 0, 0}) return 1; // no variables and no rows
         Desk desk(3, {1, 0, 5, 0, 2, 5, 2, 4, 4, 4, 0, 2}, 8);
         const auto found = desk.search(100);
         desk.decide(3);
         std::printf("%s: weight %llu, reading %llu, %llu nodes\n", found[OLIKUMPASHO_FOUND_STATUS] == OLIKUMPASHO_DONE ? "done" : "stopped",
                     static_cast<unsigned long long>(found[OLIKUMPASHO_FOUND_WEIGHT]), static_cast<unsigned long long>(found[OLIKUMPASHO_FOUND_READING]),
                     static_cast<unsigned long long>(found[OLIKUMPASHO_FOUND_NODES]));
-        std::printf("with 3 true, at least %llu\n", static_cast<unsigned long long>(desk.bound()));
+        const auto losses = desk.bound();
+        std::printf("with 3 true, %llu lost and %llu foreseen\n", static_cast<unsigned long long>(losses[OLIKUMPASHO_LOSSES_LOST]),
+                    static_cast<unsigned long long>(losses[OLIKUMPASHO_LOSSES_FORESEEN]));
     } catch (const std::runtime_error &refusal) {
         std::puts(refusal.what());
         return 1;

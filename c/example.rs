@@ -10,7 +10,7 @@ mod c {
         pub fn olikumpasho_decide(desk: *mut u64, desk_words: usize, literal: i64) -> u64;
         pub fn olikumpasho_rewrite(desk: *mut u64, desk_words: usize, kind: u64, named: *const u64, count: usize) -> u64;
         pub fn olikumpasho_take_back(desk: *mut u64, desk_words: usize) -> u64;
-        pub fn olikumpasho_bound(desk: *const u64, desk_words: usize, least: *mut u64) -> u64;
+        pub fn olikumpasho_bound(desk: *const u64, desk_words: usize, losses: *mut u64) -> u64;
         pub fn olikumpasho_search(desk: *const u64, desk_words: usize, budget: u32, found: *mut u64) -> u64;
         pub fn olikumpasho_read(text: *const u8, count: usize, table: *mut u64, words: usize, head: *mut u64) -> u64;
         pub fn olikumpasho_write(
@@ -53,10 +53,11 @@ impl Desk {
         told(unsafe { c::olikumpasho_decide(self.0.as_mut_ptr(), self.0.len(), literal) })
     }
 
-    fn bound(&self) -> Result<u64, Refused> {
-        let mut least = 0;
-        told(unsafe { c::olikumpasho_bound(self.0.as_ptr(), self.0.len(), &mut least) })?;
-        Ok(least)
+    // Conceded, lost beyond that, foreseen.
+    fn bound(&self) -> Result<[u64; 3], Refused> {
+        let mut losses = [0; 3];
+        told(unsafe { c::olikumpasho_bound(self.0.as_ptr(), self.0.len(), losses.as_mut_ptr()) })?;
+        Ok(losses)
     }
 
     fn search(&self, budget: u32) -> Result<Found, Refused> {
@@ -68,13 +69,14 @@ impl Desk {
 }
 
 fn hour() -> Result<(), Refused> {
-    assert!(Desk::load(0, &[], 0)?.bound()? == 0); // no variables and no rows
+    assert!(Desk::load(0, &[], 0)?.bound()? == [0; 3]); // no variables and no rows
     let mut desk = Desk::load(3, &[1, 0, 5, 0, 2, 5, 2, 4, 4, 4, 0, 2], 8)?;
     let found = desk.search(100)?;
     desk.decide(3)?;
     let (weight, reading) = found.best.expect("100 nodes are enough");
     println!("{}: weight {}, reading {}, {} nodes", if found.done { "done" } else { "stopped" }, weight, reading, found.nodes);
-    println!("with 3 true, at least {}", desk.bound()?);
+    let [_, lost, foreseen] = desk.bound()?;
+    println!("with 3 true, {lost} lost and {foreseen} foreseen");
     Ok(())
 }
 

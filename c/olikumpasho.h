@@ -82,7 +82,7 @@
 #include <stdint.h>
 
 /* Rises by one with each change of a name, a number or a layout below. */
-#define OLIKUMPASHO_VERSION 2
+#define OLIKUMPASHO_VERSION 3
 
 /* ---- an answer, taken apart */
 
@@ -132,7 +132,7 @@
 /* Bytes that are enough for write, for write_wcnf, and for answer, whatever they are given. */
 #define OLIKUMPASHO_MOST_WRITTEN ((size_t)136793)
 #define OLIKUMPASHO_MOST_WRITTEN_WCNF ((size_t)131663)
-#define OLIKUMPASHO_MOST_ANSWERED ((size_t)827)
+#define OLIKUMPASHO_MOST_ANSWERED ((size_t)913)
 
 /* ---- the words of a desk */
 
@@ -166,6 +166,13 @@
 #define OLIKUMPASHO_FOUND_WORDS 5
 #define OLIKUMPASHO_DONE 0
 #define OLIKUMPASHO_STOPPED 1
+
+/* ---- where a bound comes from */
+
+#define OLIKUMPASHO_LOSSES_CONCEDED 0
+#define OLIKUMPASHO_LOSSES_LOST 1 /* beyond conceded */
+#define OLIKUMPASHO_LOSSES_FORESEEN 2
+#define OLIKUMPASHO_LOSSES_WORDS 3
 
 /* ---- the head of a text */
 
@@ -225,9 +232,11 @@ uint64_t olikumpasho_rewrite(uint64_t *desk, size_t desk_words, uint64_t kind, c
    Refused by 10 for the desk, 16, 10 for the last entry. */
 uint64_t olikumpasho_take_back(uint64_t *desk, size_t desk_words);
 
-/* The bound: no reading that keeps the standing decisions weighs less than *least.
+/* The bound, as three numbers that add up to it. losses[0] is what the desk has conceded, losses[1] what is lost beyond that: the weights
+   of rows that no reading which keeps the standing decisions can satisfy. So much is certain. losses[2] is what is foreseen: no such
+   reading weighs less than the three together.
    Refused by 10. */
-uint64_t olikumpasho_bound(const uint64_t *desk, size_t desk_words, uint64_t *least);
+uint64_t olikumpasho_bound(const uint64_t *desk, size_t desk_words, uint64_t losses[3]);
 
 /* Searches the readings that keep the standing decisions, within a budget of nodes, and only reads the desk. found[0] is OLIKUMPASHO_DONE
    or OLIKUMPASHO_STOPPED. Done means: of all those readings this one weighs least, and of those that weigh as little it is the first, true

@@ -86,6 +86,11 @@ struct figures {
     word variables, clauses, top;
 };
 
+/* Where a bound comes from, document 02's C-12. */
+struct losses {
+    word conceded, lost, foreseen; /* lost: beyond conceded */
+};
+
 struct clause clause_of(const word *row);
 struct clause remnant_of(const struct clause *c, const struct partial *p);
 bool is_satisfied(const struct clause *c, const struct partial *p);
@@ -100,7 +105,7 @@ bool well_formed(struct lent desk);
 struct refusal decide(struct lent desk, int64_t literal);
 struct refusal rewrite(struct lent desk, word kind, const word *named, word count);
 struct refusal take_back(struct lent desk);
-struct refusal bound(struct lent desk, word *answer);
+struct refusal bound(struct lent desk, struct losses *answer);
 struct refusal search(struct lent desk, uint32_t budget, struct found *answer);
 
 /* For checks, on well-formed desks only: what one reading weighs, what is lost, and the least weight over all full

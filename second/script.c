@@ -29,7 +29,8 @@
    A line printed is the answer and then a checksum:
      ok CHECK                              load, decide, rewrite, back
      yes CHECK, no CHECK                   wellformed
-     WEIGHT CHECK                          bound, weight
+     WEIGHT CHECK                          weight
+     CONCEDED LOST FORESEEN CHECK          bound; lost: beyond conceded
      done WEIGHT READING NODES CHECK       search; or stopped; weight and reading may be `none`
      ok VARS BUDGET ROWS CHECK             read
      ok VARS CLAUSES CHECK                 readwcnf
@@ -233,17 +234,20 @@ static void call_search(struct bench *b, struct line *l, FILE *out)
     show(out, text, bench_check(b));
 }
 
-static void call_weighing(struct bench *b, const char *name, struct line *l, FILE *out)
+static void call_bound(struct bench *b, FILE *out)
 {
-    word weight = 0;
+    struct losses l = {0, 0, 0};
+    char text[80];
+    struct refusal no = bound(bench_desk(b), &l);
+    snprintf(text, sizeof text, "%" PRIu64 " %" PRIu64 " %" PRIu64, l.conceded, l.lost, l.foreseen);
+    show_outcome(out, no, text, bench_check(b));
+}
+
+static void call_weighing(struct bench *b, struct line *l, FILE *out)
+{
+    word weight = 0, variables = next_number(l), reading = next_number(l);
     char text[24];
-    struct refusal no;
-    if (strcmp(name, "bound") == 0) {
-        no = bound(bench_desk(b), &weight);
-    } else {
-        word variables = next_number(l), reading = next_number(l);
-        no = weigh((struct table){variables, b->table, b->table_count}, reading, &weight);
-    }
+    struct refusal no = weigh((struct table){variables, b->table, b->table_count}, reading, &weight);
     snprintf(text, sizeof text, "%" PRIu64, weight);
     show_outcome(out, no, text, bench_check(b));
 }
@@ -291,8 +295,10 @@ static bool run_call(struct bench *b, const char *name, struct line *l, FILE *ou
         call_rewrite(b, l, out);
     } else if (strcmp(name, "back") == 0) {
         show_change(out, take_back(bench_desk(b)), b);
-    } else if (strcmp(name, "bound") == 0 || strcmp(name, "weight") == 0) {
-        call_weighing(b, name, l, out);
+    } else if (strcmp(name, "bound") == 0) {
+        call_bound(b, out);
+    } else if (strcmp(name, "weight") == 0) {
+        call_weighing(b, l, out);
     } else if (strcmp(name, "search") == 0) {
         call_search(b, l, out);
     } else if (strcmp(name, "read") == 0) {

@@ -83,10 +83,16 @@ static bool stops_with_none(struct lent desk, uint32_t budget)
     return search(desk, budget, &f).number == 0 && !f.done && !f.kept && f.nodes == budget;
 }
 
+static bool losses_are(struct lent desk, word conceded, word lost, word foreseen)
+{
+    struct losses b;
+    return bound(desk, &b).number == 0 && b.conceded == conceded && b.lost == lost && b.foreseen == foreseen;
+}
+
 static bool bound_is(struct lent desk, word value)
 {
-    word b;
-    return bound(desk, &b).number == 0 && b == value;
+    struct losses b;
+    return bound(desk, &b).number == 0 && b.conceded + b.lost + b.foreseen == value;
 }
 
 static bool is(struct refusal no, unsigned number, word place) { return no.number == number && no.place == place; }
@@ -101,7 +107,7 @@ static void check_p1_to_p4(struct tally *t)
     check(t, search_gives(d, MOST_BUDGET, true, 0, 0, 1) && search_gives(d, 1, true, 0, 0, 1), "P1 weight 0, 1 node");
     check(t, stops_with_none(d, 0), "P1 budget 0");
     d = load_rows(1, "3: 1; 2: -1", 2);
-    check(t, search_gives(d, 100, true, 2, 1, 3) && bound_is(d, 2), "P2");
+    check(t, search_gives(d, 100, true, 2, 1, 3) && losses_are(d, 0, 0, 2), "P2");
     d = load_rows(1, "4: 1; 4: -1", 2);
     check(t, search_gives(d, 100, true, 4, 1, 3), "P3");
     d = load_rows(3, p4_rows, 5);
@@ -112,7 +118,7 @@ static void check_p1_to_p4(struct tally *t)
     for (word reading = 0; reading < 8; reading += 2)
         check(t, desk_weight(d.words, reading) == 1, "P4, x1 false breaks one");
     decide(d, 1);
-    check(t, bound_is(d, 2), "P4, the bound with x1 true is 2");
+    check(t, losses_are(d, 0, 0, 2), "P4, the bound with x1 true is 2");
 }
 
 static void check_p5_to_p7(struct tally *t)
@@ -163,16 +169,18 @@ static bool answers(const char *input, const char *output)
     return length == strlen(output) && memcmp(out, output, length) == 0;
 }
 
+#define NO_LOSSES "conceded=0\nlost=0\nforeseen=0\n"
+
 static void check_texts(struct tally *t)
 {
     check(t, answers("vars=1\nbudget=100\nrows=2\nweight=3\nlits=1\nweight=2\nlits=-1\n",
-                     "status=done\nweight=2\nnodes=3\nreading=1\n"), "the whole example");
-    check(t, answers("vars=0\nbudget=1\nrows=0\n", "status=done\nweight=0\nnodes=1\nreading=\n"), "P1");
-    check(t, answers("vars=0\nbudget=0\nrows=0\n", "status=stopped\nweight=none\nnodes=0\nreading=none\n"),
+                     "status=done\nweight=2\nnodes=3\nreading=1\nconceded=0\nlost=0\nforeseen=2\n"), "the whole example");
+    check(t, answers("vars=0\nbudget=1\nrows=0\n", "status=done\nweight=0\nnodes=1\nreading=\n" NO_LOSSES), "P1");
+    check(t, answers("vars=0\nbudget=0\nrows=0\n", "status=stopped\nweight=none\nnodes=0\nreading=none\n" NO_LOSSES),
           "P1, budget 0");
     check(t, answers("vars=3\nbudget=6\nrows=5\nweight=1\nlits=1\nweight=1\nlits=-1 2\nweight=1\nlits=-1 -2\nweight=1\n"
-                     "lits=-1 3\nweight=1\nlits=-1 -3\n", "status=stopped\nweight=2\nnodes=6\nreading=1 2 3\n"), "P4");
-    check(t, answers("vars=1\nbudget=9\nrows=1\nweight=7\nlits=\n", "status=done\nweight=7\nnodes=3\nreading=1\n"), "P9");
+                     "lits=-1 3\nweight=1\nlits=-1 -3\n", "status=stopped\nweight=2\nnodes=6\nreading=1 2 3\n" NO_LOSSES), "P4");
+    check(t, answers("vars=1\nbudget=9\nrows=1\nweight=7\nlits=\n", "status=done\nweight=7\nnodes=3\nreading=1\nconceded=0\nlost=7\nforeseen=0\n"), "P9");
     check(t, answers("", "status=refused\nnumber=20\nplace=1\n"), "empty");
     check(t, answers("vars=1\nbudget=9\nrows=1\nweight=7\nlits=", "status=refused\nnumber=20\nplace=5\n"), "unended");
     check(t, answers("vars=1\nbudget=9\nrows=1\nweight=7\nlits=\n\n", "status=refused\nnumber=20\nplace=6\n"), "surplus");
@@ -234,7 +242,7 @@ static void check_scripts(struct tally *t)
     char line[60];
     sprintf(line, "lend %" PRIu64 " 9", lent);
     check(t, run_line(&b, "table 1 0 3 0 1 2", NULL) && run_line(&b, line, NULL), "settings");
-    check(t, prints(&b, "load 1 2", "ok", loaded) && prints(&b, "bound", "2", loaded), "load and bound");
+    check(t, prints(&b, "load 1 2", "ok", loaded) && prints(&b, "bound", "0 0 2", loaded), "load and bound");
     check(t, prints(&b, "search 100", "done 2 1 3", loaded), "search");
     check(t, prints(&b, "search 0", "stopped none none 0", loaded), "search without a reading");
     check(t, prints(&b, "rewrite 1 0 1", "ok", merged) && prints(&b, "back", "ok", loaded), "merge and taking back");

@@ -164,7 +164,7 @@ static void put_refusal(struct page *p, struct refusal no)
     put_number_line(p, "place=", no.place);
 }
 
-static void put_found(struct page *p, word variables, const struct found *f)
+static void put_found(struct page *p, word variables, const struct found *f, const struct losses *root)
 {
     struct clause reading = {0};
     put_word(p, f->done ? "status=done\n" : "status=stopped\n");
@@ -174,9 +174,12 @@ static void put_found(struct page *p, word variables, const struct found *f)
     for (int v = 1; (word)v <= variables; v++) add_literal(&reading, has_bit(f->reading, v) ? v : -v);
     if (f->kept) put_literals_line(p, "reading=", &reading);
     else put_word(p, "reading=none\n");
+    put_number_line(p, "conceded=", root->conceded);
+    put_number_line(p, "lost=", root->lost);
+    put_number_line(p, "foreseen=", root->foreseen);
 }
 
-static struct refusal solve(const unsigned char *input, size_t length, word *variables, struct found *f)
+static struct refusal solve(const unsigned char *input, size_t length, word *variables, struct found *f, struct losses *root)
 {
     static word words[ROW_WORDS * MOST_LOADED], desk[MOST_DESK];
     struct header head;
@@ -187,6 +190,7 @@ static struct refusal solve(const unsigned char *input, size_t length, word *var
     no = load((struct lent){desk, MOST_DESK}, t, head.rows);
     if (no.number != 0) return no;
     *variables = head.variables;
+    bound((struct lent){desk, MOST_DESK}, root);
     return search((struct lent){desk, MOST_DESK}, head.budget, f);
 }
 
@@ -194,11 +198,12 @@ size_t program_answer(const unsigned char *input, size_t length, char *out)
 {
     static struct page p;
     struct found f;
+    struct losses root;
     word variables;
     p.length = 0;
-    struct refusal no = solve(input, length, &variables, &f);
+    struct refusal no = solve(input, length, &variables, &f, &root);
     if (no.number != 0) put_refusal(&p, no);
-    else put_found(&p, variables, &f);
+    else put_found(&p, variables, &f, &root);
     memcpy(out, p.bytes, p.length);
     return p.length;
 }

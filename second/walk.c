@@ -19,15 +19,15 @@ static struct sheet sheet_of(const word *desk)
     return s;
 }
 
-static word lost_under(const struct sheet *s, const struct partial *p)
+static word lost_beyond(const struct sheet *s, const struct partial *p)
 {
-    word weight = s->conceded;
+    word weight = 0;
     for (int r = 0; r < s->count; r++)
         if (!is_satisfied(&s->rows[r], p) && remnant_of(&s->rows[r], p).count == 0) weight += s->weights[r];
     return weight;
 }
 
-static word bound_under(const struct sheet *s, const struct partial *p)
+static word foreseen_under(const struct sheet *s, const struct partial *p)
 {
     word positive[MOST_VARIABLES + 1] = {0}, negative[MOST_VARIABLES + 1] = {0};
     for (int r = 0; r < s->count; r++) {
@@ -38,24 +38,29 @@ static word bound_under(const struct sheet *s, const struct partial *p)
         if (l > 0) positive[l] += s->weights[r];
         else negative[-l] += s->weights[r];
     }
-    word total = lost_under(s, p);
-    for (int v = 1; v <= s->variables; v++) total += positive[v] < negative[v] ? positive[v] : negative[v];
-    return total;
+    word sum = 0;
+    for (int v = 1; v <= s->variables; v++) sum += positive[v] < negative[v] ? positive[v] : negative[v];
+    return sum;
+}
+
+static word bound_under(const struct sheet *s, const struct partial *p)
+{
+    return s->conceded + lost_beyond(s, p) + foreseen_under(s, p);
 }
 
 word lost(const word *desk)
 {
     struct sheet s = sheet_of(desk);
     struct partial p = standing(desk);
-    return lost_under(&s, &p);
+    return s.conceded + lost_beyond(&s, &p);
 }
 
-struct refusal bound(struct lent desk, word *answer)
+struct refusal bound(struct lent desk, struct losses *answer)
 {
     if (!well_formed(desk)) return refused(10);
     struct sheet s = sheet_of(desk.words);
     struct partial p = standing(desk.words);
-    *answer = bound_under(&s, &p);
+    *answer = (struct losses){s.conceded, lost_beyond(&s, &p), foreseen_under(&s, &p)};
     return accepted();
 }
 

@@ -183,16 +183,17 @@ struct refusal take_back(struct lent desk)
     return told(answer, 0);
 }
 
-struct refusal bound(struct lent desk, word *least)
+struct refusal bound(struct lent desk, struct losses *losses)
 {
-    word answer = 0;
+    word answer = 0, got[3];
     for AT_BOTH_PLACES(place) {
         const word *words = lend_to_read(&desk_room, place, desk.words, bytes_of(desk.count));
-        word *result = lend_results(place, 1);
-        agree(place, &answer, olikumpasho_bound(words, desk.count, result), least, 1, NULL, NULL);
+        word *result = lend_results(place, 3);
+        agree(place, &answer, olikumpasho_bound(words, desk.count, result), got, 3, NULL, NULL);
         read_back(&desk_room);
     }
-    return told(answer, 1);
+    *losses = (struct losses){got[0], got[1], got[2]};
+    return told(answer, 3);
 }
 
 struct refusal search(struct lent desk, uint32_t budget, struct found *found)

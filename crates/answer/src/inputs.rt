@@ -1,24 +1,23 @@
 // From input to outcome: 19, the reader, load, then the search on a desk with room for just the rows that were read. The text is read
 // into the words that the rows have on that desk.
-ghost use Rattle.rules.specs.Program.{searchedText, answer};
-ghost use Rattle.outcomes.specs.Outcomes.{Says};
-use outcomes::Outcome;
+ghost use mathlib.Core.Path.{_≡_};
+ghost use Rattle.rules.specs.Program.{outcomeOf};
 use outcomes::WORDS;
 use outcomes::inner::search_read;
-use outcomes::refused;
 use rules::Desk;
+use rules::Outcome;
 use rules::Refusal;
 use rules::TextRead;
 
 pub fn outcome_of(input: &[u8]) -> Outcome
-    ensures { λ r. ⌜ Says searchedText r (answer (now (input .entry))) ⌝ }
+    ensures { λ r. ⌜ r ≡ outcomeOf (now (input .entry)) ⌝ }
 {
     if input.len() > TextRead::MOST_INPUT {
-        return refused(Refusal::InputTooLong);
+        return Outcome::Refused(Refusal::InputTooLong);
     }
     let mut words = [0u64; WORDS];
     match reader::read(input, &mut words[Desk::HEAD..]) {
-        TextRead::Refused(why) => refused(why),
+        TextRead::Refused(why) => Outcome::Refused(why),
         TextRead::Table {
             variables,
             budget,

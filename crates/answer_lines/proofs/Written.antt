@@ -3,21 +3,22 @@ use Prim.Native.Nat.{ℕ, _≤_}
 use mathlib.Core.Path.{_≡_, refl}
 use mathlib.Core.List.{_++_}
 use native.Mathlib.Omega.{arith}
-use lib.ListN.{length}
+use lib.ListN.{length, length-append}
 use Rattle.rules.specs.declared.Numbered.{Numbered}
 use Rattle.rules.specs.declared.Refusal.{Refusal}
 use Rattle.rules.specs.declared.Status.{Status}
 use Rattle.rules.specs.declared.Best.{Best}
 use Rattle.rules.specs.declared.Found.{Found}
-use Rattle.rules.specs.declared.Searched.{Searched}
+use Rattle.rules.specs.declared.Losses.{Losses}
 use Rattle.rules.specs.Refusals.{numbered}
 use Rattle.rules.specs.Text.{bytes, line}
-use Rattle.rules.specs.Program.{refusalText, statusText, weightText, readingText, foundText, searchedText}
+use Rattle.rules.specs.Program.{refusalText, statusText, weightText, readingText, lossesText, foundText}
 use Rattle.text_laws.specs.Keys.{weightKey}
 use Rattle.text_laws.specs.Pieces.{lineText}
 use Rattle.text_laws.proofs.Pieces.{line-length}
 use Rattle.answer_lines.specs.Keys.{refusedLine, doneLine, stoppedLine, noWeightLine, numberKey, placeKey, nodesKey}
-use Rattle.answer_lines.specs.Lengths.{mostStatusLine, mostWeightLine}
+use Rattle.answer_lines.specs.Keys.{concededKey, lostKey, foreseenKey}
+use Rattle.answer_lines.specs.Lengths.{mostStatusLine, mostWeightLine, mostLossesLines}
 
 -- ---- the lines by case
 
@@ -42,20 +43,20 @@ pub weight-some : (b : Best) (w r : ℕ) → b ≡ Best.Reading w r → line "we
 unfolding line bytes lineText
 weight-some b w r e = rw e
 
-pub found-is : (n : ℕ) (f : Found)
-    → foundText n f
+pub losses-is : (l : Losses)
+    → lossesText l ≡ lineText concededKey (l .conceded) ++ (lineText lostKey (l .lost) ++ lineText foreseenKey (l .foreseen))
+unfolding lossesText line bytes lineText
+losses-is l = refl
+
+pub found-is : (n : ℕ) (root : Losses) (f : Found)
+    → foundText n root f
     ≡ line "status=" (statusText (f .status))
     ++ (line "weight=" (weightText (f .best))
     ++ (lineText nodesKey (f .nodes)
-    ++ line "reading=" (readingText n (f .best))))
+    ++ (line "reading=" (readingText n (f .best))
+    ++ lossesText root)))
 unfolding foundText line bytes lineText
-found-is n f = refl
-
-pub searched-refused : (n : ℕ) (s : Searched) (r : Refusal) → s ≡ Searched.Refused r → searchedText n s ≡ refusalText r
-searched-refused n s r e = rw e
-
-pub searched-found : (n : ℕ) (s : Searched) (f : Found) → s ≡ Searched.Found f → searchedText n s ≡ foundText n f
-searched-found n s f e = rw e
+found-is n root f = refl
 
 -- ---- how long they are
 
@@ -68,3 +69,11 @@ pub weight-length : (b : Best) → length (line "weight=" (weightText b)) ≤ mo
 unfolding line bytes lineText
 weight-length Best.Nothing = omega arith
 weight-length (Best.Reading w r) = line-length weightKey w
+
+pub losses-length : (l : Losses) → length (lossesText l) ≤ mostLossesLines
+losses-length l =
+    let a = lineText concededKey (l .conceded) in
+    let b = lineText lostKey (l .lost) in
+    let c = lineText foreseenKey (l .foreseen) in
+    rw (losses-is l, length-append a (b ++ c), length-append b c)
+    (omega (arith, line-length concededKey (l .conceded), line-length lostKey (l .lost), line-length foreseenKey (l .foreseen)))

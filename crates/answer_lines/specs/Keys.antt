@@ -22,3 +22,12 @@ placeKey = 112 ∷ 108 ∷ 97 ∷ 99 ∷ 101 ∷ 61 ∷ []
 
 abbrev pub nodesKey : List ℕ
 nodesKey = 110 ∷ 111 ∷ 100 ∷ 101 ∷ 115 ∷ 61 ∷ []
+
+abbrev pub concededKey : List ℕ
+concededKey = 99 ∷ 111 ∷ 110 ∷ 99 ∷ 101 ∷ 100 ∷ 101 ∷ 100 ∷ 61 ∷ []
+
+abbrev pub lostKey : List ℕ
+lostKey = 108 ∷ 111 ∷ 115 ∷ 116 ∷ 61 ∷ []
+
+abbrev pub foreseenKey : List ℕ
+foreseenKey = 102 ∷ 111 ∷ 114 ∷ 101 ∷ 115 ∷ 101 ∷ 101 ∷ 110 ∷ 61 ∷ []

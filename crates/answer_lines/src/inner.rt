@@ -2,15 +2,17 @@
 ghost use Prim.Native.Nat.{_+_, _≤_, _^_};
 ghost use Rattle.literals.specs.Literal.{mostVariables};
 ghost use Rattle.rules.specs.Text.{line};
-ghost use Rattle.rules.specs.Program.{refusalText, statusText, weightText, foundText, searchedText};
+ghost use Rattle.rules.specs.Program.{refusalText, statusText, weightText, lossesText, foundText, outcomeText};
 ghost use Rattle.pieces_written.specs.Stored.{Stored};
-ghost use Rattle.answer_lines.specs.Lengths.{mostWeightLine};
+ghost use Rattle.readings.specs.Line.{Counted};
+ghost use Rattle.answer_lines.specs.Lengths.{mostWeightLine, mostLossesLines};
 use pieces_written::inner;
 use readings::inner::put_reading;
 use rules::Best;
 use rules::Found;
+use rules::Losses;
+use rules::Outcome;
 use rules::Refusal;
-use rules::Searched;
 use rules::Status;
 use values::numbered;
 
@@ -42,9 +44,22 @@ fn put_weight(out: &mut [u8], at: usize, best: Best) -> usize
     }
 }
 
-fn put_found(out: &mut [u8], variables: u64, found: Found) -> usize
+// Where the bound comes from.
+fn put_losses(out: &mut [u8], at: usize, losses: Losses) -> usize
+    requires { ⌜ at + mostLossesLines ≤ 2 ^ 32 ⌝ }
+    ensures { λ r. ⌜ Stored (now (out .entry)) at (lossesText losses) r (now (out .exit)) ⌝ }
+{
+    let conceded = losses.conceded;
+    let lost = losses.lost;
+    let foreseen = losses.foreseen;
+    let second = inner::put_number_line(out, at, b"conceded=", conceded);
+    let third = inner::put_number_line(out, second, b"lost=", lost);
+    inner::put_number_line(out, third, b"foreseen=", foreseen)
+}
+
+fn put_found(out: &mut [u8], variables: u64, root: Losses, found: Found) -> usize
     requires { ⌜ variables ≤ mostVariables ⌝ }
-    ensures { λ r. ⌜ Stored (now (out .entry)) 0 (foundText variables found) r (now (out .exit)) ⌝ }
+    ensures { λ r. ⌜ Stored (now (out .entry)) 0 (foundText variables root found) r (now (out .exit)) ⌝ }
 {
     let status = found.status;
     let best = found.best;
@@ -52,16 +67,21 @@ fn put_found(out: &mut [u8], variables: u64, found: Found) -> usize
     let second = put_status(out, status);
     let third = put_weight(out, second, best);
     let fourth = inner::put_number_line(out, third, b"nodes=", nodes);
-    put_reading(out, fourth, variables, best)
+    let fifth = put_reading(out, fourth, variables, best);
+    put_losses(out, fifth, root)
 }
 
-// What a search of so many variables came to.
-pub fn put_outcome(out: &mut [u8], variables: u64, searched: Searched) -> usize
-    requires { ⌜ variables ≤ mostVariables ⌝ }
-    ensures { λ r. ⌜ Stored (now (out .entry)) 0 (searchedText variables searched) r (now (out .exit)) ⌝ }
+// What an input came to.
+pub fn put_outcome(out: &mut [u8], outcome: Outcome) -> usize
+    requires { ⌜ Counted outcome ⌝ }
+    ensures { λ r. ⌜ Stored (now (out .entry)) 0 (outcomeText outcome) r (now (out .exit)) ⌝ }
 {
-    match searched {
-        Searched::Refused(why) => put_refusal(out, why),
-        Searched::Found(found) => put_found(out, variables, found),
+    match outcome {
+        Outcome::Refused(why) => put_refusal(out, why),
+        Outcome::Searched {
+            variables,
+            root,
+            found,
+        } => put_found(out, variables, root, found),
     }
 }

@@ -1,2 +1,2 @@
-// The lines of an answer, written of the text's own pieces: a refusal's three, or a search's four.
+// The lines of an answer, written of the text's own pieces: a refusal's three, or a search's seven.
 pub mod inner;

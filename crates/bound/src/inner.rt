@@ -4,11 +4,12 @@ ghost use mathlib.Core.Bool.{cond};
 ghost use Prim.Native.Nat.{_<_};
 ghost use Rattle.masks.specs.Masks.{has};
 ghost use Rattle.rules.specs.Desk.{decisions};
-ghost use Rattle.rules.specs.Bound.{lostBeyond, foreseenAt, foreseen, bound};
+ghost use Rattle.rules.specs.Bound.{lostBeyond, foreseenAt, foreseen, bound, lossesAt};
 ghost use Rattle.bound.specs.Units.{Readable};
 use crate::rests::lost_by;
 use crate::rests::units_by;
 use rules::Desk;
+use rules::Losses;
 use rules::Part;
 use words::inner::row_on;
 
@@ -89,13 +90,26 @@ fn foreseen(desk: &[u64], p: Part) -> u64
     sum
 }
 
-// Lost, and what is foreseen.
-pub fn bound_at(desk: &[u64], p: Part) -> u64
+// Conceded, lost beyond that, foreseen.
+pub fn losses_at(desk: &[u64], p: Part) -> Losses
     requires { ⌜ Readable (now desk) ⌝ }
-    ensures { λ r. ⌜ r ≡ bound (now (desk .entry)) p ⌝ }
+    ensures { λ r. ⌜ r ≡ lossesAt (now (desk .entry)) p ⌝ }
 {
     let conceded = rules::word(desk, Desk::CONCEDED);
     let lost = lost_beyond(desk, p);
     let foreseen = foreseen(desk, p);
-    conceded + lost + foreseen
+    Losses {
+        conceded,
+        lost,
+        foreseen,
+    }
+}
+
+// Their total.
+pub fn bound_at(desk: &[u64], p: Part) -> u64
+    requires { ⌜ Readable (now desk) ⌝ }
+    ensures { λ r. ⌜ r ≡ bound (now (desk .entry)) p ⌝ }
+{
+    let losses = losses_at(desk, p);
+    losses.conceded + losses.lost + losses.foreseen
 }

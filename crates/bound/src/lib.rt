@@ -14,13 +14,13 @@ pub struct Units {
     pub negative: u64,
 }
 
-// The bound of a desk under its own decisions, or the refusal.
+// Where the bound of a desk comes from, under its own decisions, or the refusal.
 pub fn bound(desk: &[u64]) -> Bounded
     ensures { λ r. ⌜ r ≡ bounded (now (desk .entry)) ⌝ }
 {
     if well_formed(desk) {
         let p = inner::decisions(desk);
-        Bounded::Bound(inner::bound_at(desk, p))
+        Bounded::Bound(inner::losses_at(desk, p))
     } else {
         Bounded::Refused(Refusal::BadDesk)
     }

@@ -1,6 +1,7 @@
 -- The contract of `olikumpasho_bound` is tied to `bounded`: weakened, it would not be.
 use Prim.Native.Nat.{ℕ}
 use mathlib.Core.Path.{refl, ap}
+use mathlib.Core.List.{List}
 use base.Logic.{SProp}
 use contract.Monad.{Fun}
 use denote.Ref.{now}
@@ -20,4 +21,4 @@ module _ {M : Type 1} (𝓤 : URA M) (H : Heap 𝓤) (A : Atoms 𝓤) (memory : 
   pub bound-tied :
       Tied 𝓤 H A bound.ended (bound.Statement.statement M) (bound.spec 𝓤 H A memory run) (bound.clauses 𝓤 H A memory run)
       (λ κs a. told (byBounded (bounded (now (a .0))))) (λ κs a. (tt, (boundOut (bounded (now (a .0))) (now (a .1 .0)), tt)))
-  bound-tied = tied 𝓤 H A met (λ κs a. (tt, refl)) refl (λ κs a g x ws. two-facts 𝓤 _ _ _ (λ p q. (p, ap (λ (l : ℕ). (tt, (l, tt))) q)))
+  bound-tied = tied 𝓤 H A met (λ κs a. (tt, refl)) refl (λ κs a g x ws. two-facts 𝓤 _ _ _ (λ p q. (p, ap (λ (l : List ℕ). (tt, (l, tt))) q)))

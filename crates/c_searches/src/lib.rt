@@ -10,14 +10,14 @@ use telling::found_words;
 use telling::inner::tell;
 
 #[no_mangle]
-pub extern "C" fn olikumpasho_bound(desk: &[u64], least: &mut u64) -> u64
+pub extern "C" fn olikumpasho_bound(desk: &[u64], losses: &mut [u64; 3]) -> u64
     ensures answer { λ r. ⌜ r ≡ told (byBounded (bounded (now (desk .entry)))) ⌝ }
-    ensures lent { λ _. ⌜ now (least .exit) ≡ boundOut (bounded (now (desk .entry))) (now (least .entry)) ⌝ }
+    ensures lent { λ _. ⌜ now (losses .exit) ≡ boundOut (bounded (now (desk .entry))) (now (losses .entry)) ⌝ }
 {
     match bound::bound(desk) {
         Bounded::Refused(r) => tell(Judged::Refused(r)),
         Bounded::Bound(b) => {
-            *least = b;
+            *losses = [b.conceded, b.lost, b.foreseen];
             0
         }
     }

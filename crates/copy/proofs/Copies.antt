@@ -10,7 +10,7 @@ use Rattle.rules.specs.declared.Judged.the-variants.{Fine, Refused}
 use Rattle.rules.specs.declared.Refusal.{Refusal}
 use Rattle.rules.specs.declared.TextRead.{TextRead}
 use Rattle.rules.specs.Table.{rowWords, mostRows}
-use Rattle.rules.specs.Text.{tableText, writeWhy, writeStep, written, writeOut}
+use Rattle.rules.specs.Text.{textWritten, textOut, tableText, writeWhy, written, writeOut}
 use Rattle.rules.specs.Reader.{readWords, textRead}
 use Rattle.text_laws.proofs.Converse.{converse}
 use Rattle.copy.specs.Copied.{lengthOf, lengthBy, outBy, copyLength, copyOut, Copied}
@@ -29,7 +29,7 @@ nothing : (input output : List ℕ) → Copied input 0 output
 nothing input output = record { within = omega arith; same = λ no. absurd (no refl) }
 
 at-front : (n b : ℕ) (table out : List ℕ) → Copied (tableText n b table) (lengthOf (written n b table out)) (writeOut n b table out)
-unfolding written writeOut writeStep
+unfolding textWritten textOut
 at-front n b table out = go (writeWhy n b table out) refl
   where
     text : List ℕ

@@ -1,18 +1,17 @@
 -- What is promised of competition files, of the laws of their text.
-use Prim.Native.Nat.{ℕ, _≤_}
+use Prim.Native.Nat.{ℕ}
 use mathlib.Core.Path.{_≡_, refl, sym, subst, _∙_}
 use mathlib.Core.List.{List, _++_}
-use borrow.Author.Tests.{le-ltb}
 use lib.ListN.{length, drop}
 use Rattle.rules.specs.declared.Judged.{Judged}
 use Rattle.rules.specs.declared.Judged.the-variants.{Fine, Refused}
 use Rattle.rules.specs.declared.WcnfHead.{WcnfHead}
 use Rattle.rules.specs.declared.WcnfRead.{WcnfRead}
-use Rattle.rules.specs.declared.Written.{Written}
-use Rattle.rules.specs.Table.{rowCount, tableWhy}
-use Rattle.rules.specs.Wcnf.{wcnfText, wcnfWriteWhy, wcnfWritten, wcnfOut}
+use Rattle.rules.specs.Table.{tableWhy}
+use Rattle.rules.specs.Wcnf.{wcnfText}
 use Rattle.rules.specs.WcnfReader.{headerOf, headerWhy, wcnfReadWhy, wcnfWords, wcnfReadAs, wcnfRead, wcnfTable}
 use Rattle.rules.proofs.Judging.{words-fine}
+use Rattle.text_laws.proofs.LentBytes.{text-fine, text-written}
 use Rattle.wcnf_laws.specs.Form.{Form, Held, formText}
 use Rattle.wcnf_laws.specs.Given.{Given, Exactly}
 use Rattle.wcnf_laws.specs.Rows.{Laid}
@@ -35,14 +34,6 @@ says-judged s room = by-header (headerOf s)
     by-header : (h : WcnfHead) → byWcnfRead (wcnfReadAs (headerWhy s room h) h) ≡ headerWhy s room h
     by-header (WcnfHead.Figures v m t next line) = accepted (headerWhy s room (WcnfHead.Figures v m t next line)) v m t next line
     by-header (WcnfHead.Broken line) = refl
-
-file-writes : (n : ℕ) (table out : List ℕ) → tableWhy n table ≡ Fine → length (wcnfText n table) ≤ length out
-    → (wcnfWritten n table out ≡ Written.Bytes (length (wcnfText n table)))
-    × (wcnfOut n table out ≡ wcnfText n table ++ drop (length (wcnfText n table)) out)
-unfolding wcnfWritten wcnfOut wcnfWriteWhy
-file-writes n table out fine room =
-    let fits = le-ltb (length out) (length (wcnfText n table)) room in
-    (rw (fine, fits), rw (fine, fits))
 
 module _ (f : Form) (lent : List ℕ) (held : Held f) (fine : wcnfReadWhy (formText f) (length lent) ≡ Fine) where
   file-answers : wcnfRead (formText f) (length lent) ≡ WcnfRead.Table (f .header .variables) (f .header .clauses)
@@ -72,7 +63,9 @@ says-exactly =
 pub competition : Competition
 competition =
     record {
-      writes = file-writes;
+      writes = λ n table out fine room.
+          let text = wcnfText n table in
+          text-written (tableWhy n table) text out (text-fine (tableWhy n table) text out fine room);
       readsBack = λ n table lent fine room.
           let back = read-back n table fine in
           (back .answer (length lent) room, back .lent lent room);

@@ -18,6 +18,7 @@ use Rattle.rules.specs.declared.Refusal.{Refusal}
 use Rattle.rules.specs.declared.Status.{Status}
 use Rattle.rules.specs.declared.Best.{Best}
 use Rattle.rules.specs.declared.Found.{Found}
+use Rattle.rules.specs.declared.Losses.{Losses}
 use Rattle.rules.specs.declared.Bounded.{Bounded}
 use Rattle.rules.specs.declared.Searched.{Searched}
 use Rattle.rules.specs.declared.Judged.the-variants.{Fine, Refused}
@@ -26,7 +27,7 @@ use Rattle.rules.specs.Desk.{standing, rowPlace, entryPlace, deskWords, rowOn, 
 use Rattle.rules.specs.Desk.{wellFormed, loadWhy, loadStep, decisions, satisfied, remnant, deskWeighs, keeps}
 use Rattle.rules.specs.Decide.{entered, badLiteral, decideWhy, decisionEntry, decideStep, decideDesk}
 use Rattle.rules.specs.TakeBack.{takeBackDesk, lastPlace, lastKind, lastVariable, badDecision, badLast, withdrawn, undoDecision, takeBackStep, takeBackWhy}
-use Rattle.rules.specs.Bound.{weightWhere, lostBeyond, lost, unitWeight, foreseenAt, foreseen, bound, deskWhy, bounded}
+use Rattle.rules.specs.Bound.{weightWhere, lostBeyond, lost, unitWeight, foreseenAt, foreseen, bound, lossesAt, total, deskWhy, bounded}
 use Rattle.rules.specs.Walk.{fixed, visited, keptAt, halted, walk, undecided, atStart, walkOf, searched}
 use Rattle.rules.specs.Calls.{Call, decide, takeBack, afterCall, afterCalls}
 use Rattle.rules.specs.Examples.{x, not-x, row, lent, desk}
@@ -107,11 +108,14 @@ pub no-invented-count : (f : Found) → searched (desk 3 p4 5) 11 ≡ Searched.F
 no-invented-count f e = let a = p4-searched .2 in cc
 
 -- "a bound that is always 0" falls "to its definition and P2"
-p2-bound : bounded (desk 1 p2 2) ≡ Bounded.Bound 2
-unfolding bounded deskWhy bound lost lostBeyond foreseen foreseenAt unitWeight weightWhere isEmpty sameLits decisions satisfied remnant wellFormed
+p2-bound : bounded (desk 1 p2 2) ≡ Bounded.Bound (record { conceded = 0; lost = 0; foreseen = 2 })
+unfolding bounded deskWhy lossesAt lostBeyond foreseen foreseenAt unitWeight weightWhere isEmpty sameLits decisions satisfied remnant wellFormed
     reaches inLimits rowsSound weightFits masksNest weightOn rowOn rowIn rowPlace deskWords rowCount loadStep badLits rowWordsOf noLits together
     litsOf bitOf size isPositive has bit sum every without none below single
 p2-bound = refl
 
-pub no-zero-bound : bounded (desk 1 p2 2) ≡ Bounded.Bound 0 → ⊥
-no-zero-bound e = let z : _≡_ {A = ℕ} 2 0 = let b = p2-bound in cc in omega arith
+pub no-zero-bound : (l : Losses) → bounded (desk 1 p2 2) ≡ Bounded.Bound l → total l ≡ 0 → ⊥
+no-zero-bound l e z =
+    let two : Bounded.Bound (record { conceded = 0; lost = 0; foreseen = 2 }) ≡ Bounded.Bound l = sym p2-bound ∙ e in
+    let is : record { conceded = 0; lost = 0; foreseen = 2 } ≡ l = cc in
+    omega (arith, ap (λ (x : Losses). x .foreseen) is)

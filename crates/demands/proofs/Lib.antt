@@ -3,5 +3,6 @@ pub mod Rewriting
 pub mod Searching
 pub mod Lines
 pub mod Competing
+pub mod Losses
 pub mod Demands
 pub mod Frauds

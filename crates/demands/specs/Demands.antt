@@ -12,6 +12,7 @@ use Rattle.rules.specs.declared.Found.{Found}
 use Rattle.rules.specs.declared.Refusal.{Refusal}
 use Rattle.rules.specs.declared.Judged.{Judged}
 use Rattle.rules.specs.declared.Judged.the-variants.{Fine, Refused}
+use Rattle.rules.specs.declared.Losses.{Losses}
 use Rattle.rules.specs.declared.Bounded.{Bounded}
 use Rattle.rules.specs.declared.Searched.{Searched}
 use Rattle.rules.specs.declared.TextRead.{TextRead}
@@ -22,7 +23,7 @@ use Rattle.rules.specs.Desk.{standing, decided, truths, deskWords, wellFormed, 
 use Rattle.rules.specs.Decide.{decideWhy, decideDesk}
 use Rattle.rules.specs.Rewrite.{rewriteWhy, rewriteDesk}
 use Rattle.rules.specs.TakeBack.{takeBackWhy, takeBackDesk}
-use Rattle.rules.specs.Bound.{bound, bounded}
+use Rattle.rules.specs.Bound.{lossesAt, total, bounded}
 use Rattle.rules.specs.Walk.{mostBudget, foundBy, walkIn, searched}
 use Rattle.rules.specs.Text.{tableText, writeWhy, written, writeOut}
 use Rattle.rules.specs.Reader.{textRead, readWords, readTable}
@@ -114,10 +115,10 @@ pub record Kept (n : ℕ) (table : List ℕ) (c : ℕ) (d : List ℕ) (calls : L
   -- "words past it are never touched"
   pub untouched : drop (deskWords c) after ≡ drop (deskWords c) d
   -- "The bound never exceeds the least weight of such a reading."
-  pub bounds : (full b : ℕ) → bounded after ≡ Bounded.Bound b → keeps after full ≡ true → b ≤ weighs table full
+  pub bounds : (full : ℕ) (l : Losses) → bounded after ≡ Bounded.Bound l → keeps after full ≡ true → total l ≤ weighs table full
   -- no call of the run gave a 10, and neither do bound and search after it
   pub neverTen : NeverTen start calls
-  pub boundGiven : bounded after ≡ Bounded.Bound (bound after (decisions after))
+  pub boundGiven : bounded after ≡ Bounded.Bound (lossesAt after (decisions after))
   pub searchGiven : (budget : ℕ) → searched after budget ≡ Searched.Found (foundBy (walkIn after budget))
 
 abbrev pub Demand3 : Type 0

@@ -3,4 +3,5 @@ pub mod Searches
 pub mod Rewritings
 pub mod Lines
 pub mod Competition
+pub mod Losses
 pub mod Demands

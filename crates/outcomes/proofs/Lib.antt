@@ -1,3 +1,3 @@
 pub mod Searching
 pub mod Heads
-pub mod Saying
+pub mod Counting

@@ -9,17 +9,20 @@ use Rattle.rules.specs.declared.Refusal.{Refusal}
 use Rattle.rules.specs.declared.Judged.{Judged}
 use Rattle.rules.specs.declared.Judged.the-variants.{Fine, Refused}
 use Rattle.rules.specs.declared.Found.{Found}
-use Rattle.rules.specs.declared.Searched.{Searched}
+use Rattle.rules.specs.declared.Losses.{Losses}
+use Rattle.rules.specs.declared.Outcome.{Outcome}
+use Rattle.rules.specs.declared.Part.{Part}
 use Rattle.rules.specs.Table.{rowWords}
-use Rattle.rules.specs.Desk.{headWords, inUse, rowPlace, deskWords, wellFormed, loadStep}
+use Rattle.rules.specs.Desk.{headWords, inUse, rowPlace, deskWords, wellFormed, loadStep, decisions}
+use Rattle.rules.specs.Bound.{lossesAt}
 use Rattle.rules.specs.Walk.{walkIn, foundBy}
-use Rattle.rules.specs.Program.{programDesk, tableSearched}
+use Rattle.rules.specs.Program.{programDesk, tableOutcome}
 use Rattle.rules.proofs.Judging.{words-fine}
 use Rattle.desk_laws.proofs.Formed.{formed}
 use Rattle.desk_laws.proofs.Alike.{front-alike}
 use Rattle.step_laws.proofs.Steps.{load-formed}
 use Rattle.text_laws.proofs.Matched.{matched}
-use Rattle.walk_laws.proofs.Alike.{walk-alike}
+use Rattle.walk_laws.proofs.Alike.{losses-alike, walk-alike}
 use Rattle.desk.specs.Front.{frontWhy, frontStep, frontDesk}
 use Rattle.desk.proofs.Fronts.{front-count}
 use Rattle.bound.specs.Units.{Readable}
@@ -27,7 +30,7 @@ use Rattle.bound.proofs.Fits.{readable, readable-front}
 
 module _ (n b m : ℕ) (words : List ℕ) (long : length words ≡ headWords + rowWords * m) where
   pub not-loaded : (j : Judged) (r : Refusal) → j ≡ frontWhy n m words → j ≡ Refused r
-      → Searched.Refused r ≡ tableSearched n b m (drop headWords words)
+      → Outcome.Refused r ≡ tableOutcome n b m (drop headWords words)
   unfolding frontWhy
   not-loaded j r why e = let f : frontWhy n m words ≡ Refused r = matched why e in rw f
 
@@ -52,11 +55,15 @@ module _ (n b m : ℕ) (words : List ℕ) (long : length words ≡ headWords + r
     pub front-readable : Readable after
     front-readable = rw front (readable-front (readable _ formed-whole) (rowPlace m) ends within)
 
-    pub loaded : (found : Found) → found ≡ foundBy (walkIn after b) → Searched.Found found ≡ tableSearched n b m (drop headWords words)
+    pub loaded : (p : Part) (root : Losses) (found : Found) → p ≡ decisions after → root ≡ lossesAt after p → found ≡ foundBy (walkIn after b)
+        → Outcome.Searched n root found ≡ tableOutcome n b m (drop headWords words)
     unfolding frontWhy
-    loaded found e =
+    loaded p root found is e g =
         let d = programDesk n m (drop headWords words) in
         let f : frontWhy n m words ≡ Fine = matched why fine in
+        let alike = front-alike d (rowPlace m) ends in
+        let rooted : root ≡ lossesAt d (decisions d) =
+        e ∙ ap (lossesAt after) is ∙ ap (λ (x : List ℕ). lossesAt x (decisions x)) front ∙ losses-alike alike in
         let same : found ≡ foundBy (walkIn d b) =
-        e ∙ ap (λ (x : List ℕ). foundBy (walkIn x b)) front ∙ ap foundBy (walk-alike (front-alike d (rowPlace m) ends) b) in
-        rw (same, f)
+        g ∙ ap (λ (x : List ℕ). foundBy (walkIn x b)) front ∙ ap foundBy (walk-alike alike b) in
+        rw (rooted, same, f)

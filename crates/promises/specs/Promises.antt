@@ -7,6 +7,7 @@ use prog.Memory.{Memory}
 use prog.Routine.{Routine}
 use prog.Wp.{Heap}
 use Rattle.demands.specs.Demands.{Demand1, Demand2, Demand3}
+use Rattle.demands.specs.Losses.{LossesExplained}
 use Rattle.promises.specs.Tied.{TiedInCode}
 use Rattle.promises.specs.TiedC.{TiedInC}
 
@@ -19,3 +20,5 @@ pub record Promises : Type 2 where
   pub demand1 : Demand1
   pub demand2 : Demand2
   pub demand3 : Demand3
+  -- document 02, C-12: where the bound comes from
+  pub losses : LossesExplained

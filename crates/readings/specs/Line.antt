@@ -1,8 +1,9 @@
 -- The line of a reading: its key and what stands for none, as bytes, and the most bytes that it can have.
-use Prim.Native.Nat.{ℕ, _+_}
+use Prim.Native.Nat.{ℕ, _+_, _≤_}
 use mathlib.Core.List.{List, [], _∷_}
 use lib.ListN.{length}
 use Rattle.literals.specs.Literal.{mostVariables}
+use Rattle.rules.specs.declared.Outcome.{Outcome}
 use Rattle.text_laws.specs.Lengths.{mostLitsEnd}
 
 abbrev pub readingKey : List ℕ
@@ -13,3 +14,8 @@ noReadingLine = 114 ∷ 101 ∷ 97 ∷ 100 ∷ 105 ∷ 110 ∷ 103 ∷ 61 ∷ 11
 
 abbrev pub mostReadingLine : ℕ
 mostReadingLine = length readingKey + mostLitsEnd mostVariables
+
+-- a search is of no more variables than a reading can name
+abbrev pub Counted : Outcome → Type 0
+Counted (Outcome.Searched variables root found) = variables ≤ mostVariables
+Counted (Outcome.Refused r) = Unit

@@ -8,6 +8,7 @@ use Rattle.literals.specs.declared.Lits.{Lits}
 use Rattle.literals.specs.Lits.{isEmpty, sameLits}
 use Rattle.rules.specs.declared.Row.{Row}
 use Rattle.rules.specs.declared.Part.{Part}
+use Rattle.rules.specs.declared.Losses.{Losses}
 use Rattle.rules.specs.declared.Bounded.{Bounded}
 use Rattle.rules.specs.declared.Refusal.the-variants.{BadDesk}
 use Rattle.rules.specs.declared.Judged.{Judged}
@@ -44,14 +45,26 @@ foreseen d p = sum (variables d) (λ v. cond (has (p .decided) v) 0 (foreseenAt 
 unfoldable pub bound : List ℕ → Part → ℕ
 bound d p = lost d p + foreseen d p
 
+-- Document 02, C-12: "The bound answers three numbers: conceded, lost beyond conceded, and the foreseen part."
+unfoldable pub lossesAt : List ℕ → Part → Losses
+lossesAt d p = record { conceded = conceded d; lost = lostBeyond d p; foreseen = foreseen d p }
+
+-- what is certain: the weight of every reading below has it
+abbrev pub certain : Losses → ℕ
+certain l = l .conceded + l .lost
+
+-- "Their sum is the bound of document 01."
+abbrev pub total : Losses → ℕ
+total l = certain l + l .foreseen
+
 -- Bound and search: 10.
 unfoldable pub deskWhy : List ℕ → Judged
 deskWhy d = firstDue (BadDesk when not (wellFormed d) ∷ [])
 
-abbrev pub boundedAs : Judged → ℕ → Bounded
-boundedAs Fine b = Bounded.Bound b
-boundedAs (Refused r) b = Bounded.Refused r
+abbrev pub boundedAs : Judged → Losses → Bounded
+boundedAs Fine l = Bounded.Bound l
+boundedAs (Refused r) l = Bounded.Refused r
 
 -- the bound of a desk, under its own decisions
 unfoldable pub bounded : List ℕ → Bounded
-bounded d = boundedAs (deskWhy d) (bound d (decisions d))
+bounded d = boundedAs (deskWhy d) (lossesAt d (decisions d))

@@ -63,9 +63,9 @@ abbrev pub refusal : Judged → List ℕ
 refusal Fine = []
 refusal (Refused r) = numberOf r ∷ placeOf r ∷ []
 
-abbrev boundNumber : Bounded → List ℕ
-boundNumber (Bounded.Bound b) = b ∷ []
-boundNumber (Bounded.Refused r) = numberOf r ∷ placeOf r ∷ []
+abbrev boundNumbers : Bounded → List ℕ
+boundNumbers (Bounded.Bound l) = l .conceded ∷ l .lost ∷ l .foreseen ∷ []
+boundNumbers (Bounded.Refused r) = numberOf r ∷ placeOf r ∷ []
 
 -- conceded and the rows in use
 abbrev rowsOn : List ℕ → ℕ → List ℕ
@@ -107,31 +107,31 @@ abbrev pub examples : List Example
 examples =
     example "P1: no variables, no rows"
     (answer (bytes "vars=0\nbudget=100\nrows=0\n"))
-    (bytes "status=done\nweight=0\nnodes=1\nreading=\n")
+    (bytes "status=done\nweight=0\nnodes=1\nreading=\nconceded=0\nlost=0\nforeseen=0\n")
     ∷ example "P1: budget 0 stops with none"
     (answer (bytes "vars=0\nbudget=0\nrows=0\n"))
-    (bytes "status=stopped\nweight=none\nnodes=0\nreading=none\n")
+    (bytes "status=stopped\nweight=none\nnodes=0\nreading=none\nconceded=0\nlost=0\nforeseen=0\n")
     ∷ example "P2: the whole example"
     (answer (bytes "vars=1\nbudget=100\nrows=2\nweight=3\nlits=1\nweight=2\nlits=-1\n"))
-    (bytes "status=done\nweight=2\nnodes=3\nreading=1\n")
+    (bytes "status=done\nweight=2\nnodes=3\nreading=1\nconceded=0\nlost=0\nforeseen=2\n")
     ∷ example "P2: bound"
-    (boundNumber (bounded (desk 1 (row (x 1 ∷ []) 3 ++ row (not-x 1 ∷ []) 2) 2)))
-    (2 ∷ [])
+    (boundNumbers (bounded (desk 1 (row (x 1 ∷ []) 3 ++ row (not-x 1 ∷ []) 2) 2)))
+    (0 ∷ 0 ∷ 2 ∷ [])
     ∷ example "P3"
     (answer (bytes "vars=1\nbudget=100\nrows=2\nweight=4\nlits=1\nweight=4\nlits=-1\n"))
-    (bytes "status=done\nweight=4\nnodes=3\nreading=1\n")
+    (bytes "status=done\nweight=4\nnodes=3\nreading=1\nconceded=0\nlost=0\nforeseen=4\n")
     ∷ example "P4"
     (answer (bytes "vars=3\nbudget=100\n" ++ bytes p4))
-    (bytes "status=done\nweight=1\nnodes=11\nreading=-1 2 3\n")
+    (bytes "status=done\nweight=1\nnodes=11\nreading=-1 2 3\nconceded=0\nlost=0\nforeseen=0\n")
     ∷ example "P4: budget 6"
     (answer (bytes "vars=3\nbudget=6\n" ++ bytes p4))
-    (bytes "status=stopped\nweight=2\nnodes=6\nreading=1 2 3\n")
+    (bytes "status=stopped\nweight=2\nnodes=6\nreading=1 2 3\nconceded=0\nlost=0\nforeseen=0\n")
     ∷ example "P4: budget 10"
     (answer (bytes "vars=3\nbudget=10\n" ++ bytes p4))
-    (bytes "status=stopped\nweight=1\nnodes=10\nreading=-1 2 3\n")
+    (bytes "status=stopped\nweight=1\nnodes=10\nreading=-1 2 3\nconceded=0\nlost=0\nforeseen=0\n")
     ∷ example "P4: budget 11"
     (answer (bytes "vars=3\nbudget=11\n" ++ bytes p4))
-    (bytes "status=done\nweight=1\nnodes=11\nreading=-1 2 3\n")
+    (bytes "status=done\nweight=1\nnodes=11\nreading=-1 2 3\nconceded=0\nlost=0\nforeseen=0\n")
     ∷ example "P5: chain on rows 0, 2, 1; C = 4 fits"
     (refusal (callWhy (desk 2 p5 4) (rewrite 3 (0 ∷ 2 ∷ 1 ∷ []))))
     []
@@ -144,6 +144,10 @@ examples =
     ∷ example "P5: the all-false reading, in the table and after the chain"
     (weighs p5 0 ∷ deskWeighs (afterCall (desk 2 p5 4) (rewrite 3 (0 ∷ 2 ∷ 1 ∷ []))) 0 ∷ [])
     (8 ∷ 8 ∷ [])
+    ∷ example "P5: the bound after the chain: 2 conceded; with x1 false, 1 more lost"
+    (boundNumbers (bounded (afterCall (desk 2 p5 4) (rewrite 3 (0 ∷ 2 ∷ 1 ∷ []))))
+    ++ boundNumbers (bounded (afterCalls (desk 2 p5 4) (rewrite 3 (0 ∷ 2 ∷ 1 ∷ []) ∷ decide (negsuc 0) ∷ []))))
+    (2 ∷ 0 ∷ 0 ∷ 2 ∷ 1 ∷ 0 ∷ [])
     ∷ example "P6: fork concedes 1, adds (1,-2,-3) and (-1,2,3)"
     (account (afterCall (desk 3 p6 6) (rewrite 4 (0 ∷ 1 ∷ 2 ∷ 3 ∷ []))))
     (1 ∷ (row (x 1 ∷ []) 0 ++ (row (not-x 1 ∷ x 2 ∷ []) 0 ++ (row (not-x 1 ∷ x 3 ∷ []) 0 ++ (row (not-x 2 ∷ not-x 3 ∷ []) 0
@@ -162,7 +166,7 @@ examples =
     (16 ∷ 0 ∷ [])
     ∷ example "P9"
     (answer (bytes "vars=1\nbudget=100\nrows=1\nweight=7\nlits=\n"))
-    (bytes "status=done\nweight=7\nnodes=3\nreading=1\n")
+    (bytes "status=done\nweight=7\nnodes=3\nreading=1\nconceded=0\nlost=7\nforeseen=0\n")
     ∷ example "P10: 999,999,999 and 1 load"
     (refusal (p10 999_999_999 1))
     []

@@ -257,7 +257,7 @@ further =
     (15 ∷ 0 ∷ [])
     ∷ example "limit: budget 4,294,967,295"
     (answer (bytes "vars=0\nbudget=4294967295\nrows=0\n"))
-    (bytes "status=done\nweight=0\nnodes=1\nreading=\n")
+    (bytes "status=done\nweight=0\nnodes=1\nreading=\nconceded=0\nlost=0\nforeseen=0\n")
     ∷ example "limit: budget 4,294,967,296"
     (answer (bytes "vars=0\nbudget=4294967296\nrows=0\n"))
     (bytes "status=refused\nnumber=9\nplace=0\n")

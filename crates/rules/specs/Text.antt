@@ -82,27 +82,33 @@ tableText variables budget table =
     ++ (line "rows=" (numberText (rowCount table))
     ++ rowsText table (rowCount table)))
 
--- Writer: 1, 2, rows, 7, 4.
-unfoldable pub writeWhy : ℕ → ℕ → List ℕ → List ℕ → Judged
-writeWhy variables budget table out =
-    firstDue (asIn (tableWhy variables table) ∷ NoRoom when ltb (length out) (length (tableText variables budget table)) ∷ [])
+-- ---- a text put into lent bytes: by either writer, and as an answer
 
--- "An accepted call writes nothing past its output's end."
-unfoldable pub writeStep : ℕ → ℕ → List ℕ → List ℕ → List ℕ
-writeStep variables budget table out =
-    let text = tableText variables budget table in
-    text ++ drop (length text) out
+-- what is judged before, then 4: the lent output is too short
+unfoldable pub textWhy : Judged → List ℕ → List ℕ → Judged
+textWhy before text out = firstDue (asIn before ∷ NoRoom when ltb (length out) (length text) ∷ [])
 
 abbrev pub writtenAs : Judged → ℕ → Written
 writtenAs Fine n = Written.Bytes n
 writtenAs (Refused r) n = Written.Refused r
 
-unfoldable pub written : ℕ → ℕ → List ℕ → List ℕ → Written
-written variables budget table out = writtenAs (writeWhy variables budget table out) (length (tableText variables budget table))
+-- how many bytes it has, or why none was written
+unfoldable pub textWritten : Judged → List ℕ → List ℕ → Written
+textWritten before text out = writtenAs (textWhy before text out) (length text)
 
--- the lent bytes afterwards
-unfoldable pub writeOut : ℕ → ℕ → List ℕ → List ℕ → List ℕ
-writeOut variables budget table out = unlessRefused (writeWhy variables budget table out) (writeStep variables budget table out) out
+-- the lent bytes afterwards: "An accepted call writes nothing past its output's end."
+unfoldable pub textOut : Judged → List ℕ → List ℕ → List ℕ
+textOut before text out = unlessRefused (textWhy before text out) (text ++ drop (length text) out) out
+
+-- Writer: 1, 2, rows, 7, 4.
+abbrev pub writeWhy : ℕ → ℕ → List ℕ → List ℕ → Judged
+writeWhy variables budget table out = textWhy (tableWhy variables table) (tableText variables budget table) out
+
+abbrev pub written : ℕ → ℕ → List ℕ → List ℕ → Written
+written variables budget table out = textWritten (tableWhy variables table) (tableText variables budget table) out
+
+abbrev pub writeOut : ℕ → ℕ → List ℕ → List ℕ → List ℕ
+writeOut variables budget table out = textOut (tableWhy variables table) (tableText variables budget table) out
 
 -- Reader: first three lines (20), 1, 9, 2, 4, the rest (20). What the first three lines say is judged by 1, 9, 2, 4.
 abbrev pub figuresOrder : ℕ → ℕ → ℕ → ℕ → List Rule

@@ -2,19 +2,15 @@
 use Prim.Native.Nat.{ℕ, zero, suc, _+_}
 use mathlib.Core.List.{List, [], _∷_, _++_}
 use mathlib.Core.Bool.{cond}
-use lib.ListN.{length, drop}
-use lib.Dec.{ltb}
 use Rattle.masks.specs.Masks.{has}
 use Rattle.masks.specs.Sums.{sum}
 use Rattle.literals.specs.declared.Lits.{Lits}
 use Rattle.literals.specs.Literal.{mostVariables}
 use Rattle.rules.specs.declared.Row.{Row}
 use Rattle.rules.specs.declared.Written.{Written}
-use Rattle.rules.specs.declared.Refusal.the-variants.{NoRoom}
 use Rattle.rules.specs.declared.Judged.{Judged}
-use Rattle.rules.specs.Refusals.{_when_, asIn, firstDue, unlessRefused}
 use Rattle.rules.specs.Table.{rowOf, rowCount, tableWhy}
-use Rattle.rules.specs.Text.{bytes, lineFeed, space, minus, numberText, writtenAs}
+use Rattle.rules.specs.Text.{bytes, lineFeed, space, minus, numberText, textWhy, textWritten, textOut}
 
 -- "top written as the weight sum plus one"
 unfoldable pub topOf : List ℕ → ℕ
@@ -44,14 +40,12 @@ wcnfText variables table =
     ++ (lineFeed ∷ clausesText table (rowCount table)))))))
 
 -- Writer: 1, 2, rows, 7, 4.
-unfoldable pub wcnfWriteWhy : ℕ → List ℕ → List ℕ → Judged
-wcnfWriteWhy variables table out = firstDue (asIn (tableWhy variables table) ∷ NoRoom when ltb (length out) (length (wcnfText variables table)) ∷ [])
+abbrev pub wcnfWriteWhy : ℕ → List ℕ → List ℕ → Judged
+wcnfWriteWhy variables table out = textWhy (tableWhy variables table) (wcnfText variables table) out
 
-unfoldable pub wcnfWritten : ℕ → List ℕ → List ℕ → Written
-wcnfWritten variables table out = writtenAs (wcnfWriteWhy variables table out) (length (wcnfText variables table))
+abbrev pub wcnfWritten : ℕ → List ℕ → List ℕ → Written
+wcnfWritten variables table out = textWritten (tableWhy variables table) (wcnfText variables table) out
 
 -- the lent bytes afterwards
-unfoldable pub wcnfOut : ℕ → List ℕ → List ℕ → List ℕ
-wcnfOut variables table out =
-    let text = wcnfText variables table in
-    unlessRefused (wcnfWriteWhy variables table out) (text ++ drop (length text) out) out
+abbrev pub wcnfOut : ℕ → List ℕ → List ℕ → List ℕ
+wcnfOut variables table out = textOut (tableWhy variables table) (wcnfText variables table) out

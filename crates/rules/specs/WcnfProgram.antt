@@ -1,26 +1,27 @@
 -- Document 02, C-11: what the program for competition files answers, from input bytes to output bytes, in the lines of such an answer: `c` a comment,
 -- `o` a weight, `s` the statement, `v` the values.
 use Prim.Native.Nat.{ℕ, _*_}
-use mathlib.Core.List.{List, [], _∷_, _++_}
+use mathlib.Core.List.{List, [], _++_}
 use mathlib.Core.Bool.{cond}
-use lib.ListN.{length, drop}
+use lib.ListN.{length}
 use lib.Dec.{ltb}
 use Rattle.rules.specs.declared.Refusal.{Refusal}
-use Rattle.rules.specs.declared.Refusal.the-variants.{NoRoom, InputTooLong}
+use Rattle.rules.specs.declared.Refusal.the-variants.{InputTooLong}
 use Rattle.rules.specs.declared.Judged.{Judged}
+use Rattle.rules.specs.declared.Judged.the-variants.{Fine}
 use Rattle.rules.specs.declared.Status.{Status}
 use Rattle.rules.specs.declared.Best.{Best}
 use Rattle.rules.specs.declared.Found.{Found}
-use Rattle.rules.specs.declared.Searched.{Searched}
+use Rattle.rules.specs.declared.Outcome.{Outcome}
 use Rattle.rules.specs.declared.WcnfRead.{WcnfRead}
 use Rattle.rules.specs.declared.Written.{Written}
-use Rattle.rules.specs.Refusals.{numberOf, placeOf, _when_, firstDue, unlessRefused}
+use Rattle.rules.specs.Refusals.{numberOf, placeOf}
 use Rattle.rules.specs.Table.{rowWords, mostRows}
 use Rattle.rules.specs.Walk.{mostBudget}
-use Rattle.rules.specs.Text.{bytes, numberText, line, writtenAs}
+use Rattle.rules.specs.Text.{bytes, numberText, line, textWhy, textWritten, textOut}
 use Rattle.rules.specs.Wcnf.{spacedLits}
 use Rattle.rules.specs.WcnfReader.{wcnfRead, wcnfWords}
-use Rattle.rules.specs.Program.{mostInput, literalsOf, tableSearched}
+use Rattle.rules.specs.Program.{mostInput, literalsOf, tableOutcome}
 
 -- the statement: nothing is stated of a search that was stopped, nor of a refusal
 abbrev pub statementText : Status → List ℕ
@@ -47,30 +48,31 @@ wcnfFoundText variables f =
     ++ (statementText (f .status)
     ++ valuesText variables (f .best)))
 
--- the lines of what a search of so many variables came to
-abbrev pub wcnfSearchedText : ℕ → Searched → List ℕ
-wcnfSearchedText variables (Searched.Found found) = wcnfFoundText variables found
-wcnfSearchedText variables (Searched.Refused r) = wcnfRefusalText r
+-- the lines of what an input came to
+abbrev pub wcnfOutcomeText : Outcome → List ℕ
+wcnfOutcomeText (Outcome.Searched variables root found) = wcnfFoundText variables found
+wcnfOutcomeText (Outcome.Refused r) = wcnfRefusalText r
 
 -- A competition file has no budget: the search gets the largest.
-abbrev pub wcnfReadAnswer : List ℕ → WcnfRead → List ℕ
-wcnfReadAnswer table (WcnfRead.Table variables m) = wcnfSearchedText variables (tableSearched variables mostBudget m table)
-wcnfReadAnswer table (WcnfRead.Refused r) = wcnfRefusalText r
+abbrev pub wcnfReadOutcome : List ℕ → WcnfRead → Outcome
+wcnfReadOutcome table (WcnfRead.Table variables m) = tableOutcome variables mostBudget m table
+wcnfReadOutcome table (WcnfRead.Refused r) = Outcome.Refused r
 
 -- Program: 19, reader, load.
+unfoldable pub wcnfOutcomeOf : List ℕ → Outcome
+wcnfOutcomeOf input =
+    cond (ltb mostInput (length input)) (Outcome.Refused InputTooLong) (wcnfReadOutcome (wcnfWords input) (wcnfRead input (rowWords * mostRows)))
+
 unfoldable pub wcnfAnswer : List ℕ → List ℕ
-wcnfAnswer input =
-    cond (ltb mostInput (length input)) (wcnfRefusalText InputTooLong) (wcnfReadAnswer (wcnfWords input) (wcnfRead input (rowWords * mostRows)))
+wcnfAnswer input = wcnfOutcomeText (wcnfOutcomeOf input)
 
--- The answer into lent bytes. 4: the lent output is too short.
-unfoldable pub wcnfAnswerWhy : List ℕ → List ℕ → Judged
-wcnfAnswerWhy input output = firstDue (NoRoom when ltb (length output) (length (wcnfAnswer input)) ∷ [])
+-- The answer into lent bytes, which can be refused with 4 alone.
+abbrev pub wcnfAnswerWhy : List ℕ → List ℕ → Judged
+wcnfAnswerWhy input output = textWhy Fine (wcnfAnswer input) output
 
-unfoldable pub wcnfAnswered : List ℕ → List ℕ → Written
-wcnfAnswered input output = writtenAs (wcnfAnswerWhy input output) (length (wcnfAnswer input))
+abbrev pub wcnfAnswered : List ℕ → List ℕ → Written
+wcnfAnswered input output = textWritten Fine (wcnfAnswer input) output
 
--- the lent bytes afterwards: "An accepted call writes nothing past its output's end."
-unfoldable pub wcnfAnswerOut : List ℕ → List ℕ → List ℕ
-wcnfAnswerOut input output =
-    let text = wcnfAnswer input in
-    unlessRefused (wcnfAnswerWhy input output) (text ++ drop (length text) output) output
+-- the lent bytes afterwards
+abbrev pub wcnfAnswerOut : List ℕ → List ℕ → List ℕ
+wcnfAnswerOut input output = textOut Fine (wcnfAnswer input) output

@@ -125,15 +125,32 @@ pub enum Weighed {
     Refused(Refusal),
 }
 
+// Where a bound comes from: what is conceded, what is lost beyond that, and what is foreseen. The first two are certain.
+pub struct Losses {
+    pub conceded: u64,
+    pub lost: u64,
+    pub foreseen: u64,
+}
+
 // The bound of a desk, or why there is none.
 pub enum Bounded {
-    Bound(u64),
+    Bound(Losses),
     Refused(Refusal),
 }
 
 // What a search found, or why it was refused.
 pub enum Searched {
     Found(Found),
+    Refused(Refusal),
+}
+
+// What an input of a program comes to: a search of so many variables, with the losses at its root, or why it was refused.
+pub enum Outcome {
+    Searched {
+        variables: u64,
+        root: Losses,
+        found: Found,
+    },
     Refused(Refusal),
 }
 

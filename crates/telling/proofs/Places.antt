@@ -29,12 +29,12 @@ use Rattle.rules.specs.Decide.{badLiteral, decideWhy}
 use Rattle.rules.specs.Rewrite.{wellFitted, given, rewriteWhy}
 use Rattle.rules.specs.Steps.{wellNamed, stored}
 use Rattle.rules.specs.TakeBack.{badLast, takeBackWhy}
-use Rattle.rules.specs.Bound.{bound, deskWhy, boundedAs, bounded}
+use Rattle.rules.specs.Bound.{lossesAt, deskWhy, boundedAs, bounded}
 use Rattle.rules.specs.Walk.{mostBudget, walkIn, foundBy, searchedAs, searched}
-use Rattle.rules.specs.Text.{bytes, tableText, writeWhy, writtenAs, written}
-use Rattle.rules.specs.Wcnf.{wcnfText, wcnfWriteWhy, wcnfWritten}
+use Rattle.rules.specs.Text.{bytes, tableText, textWhy, writtenAs, textWritten, written}
+use Rattle.rules.specs.Wcnf.{wcnfText, wcnfWritten}
 use Rattle.rules.specs.Reader.{firstRowLine, rowLines}
-use Rattle.rules.specs.Program.{answer, answerWhy, answered}
+use Rattle.rules.specs.Program.{answer, answered}
 use Rattle.rules.specs.Reader.{RowsRead, rows, brokenAt, numberLine, litsLine, onNumber, rowBy, onRow}
 use Rattle.rules.specs.Reader.{inFront, rowAt, rowsAt, headAt, restWhy, headWhy, readWhy, textReadAs, textRead}
 use Rattle.telling.specs.Told.{byWeighed, byBounded, bySearched, byTextRead, byWritten}
@@ -165,7 +165,7 @@ pub bounded-small : (d : List ℕ) → Small (byBounded (bounded d))
 unfolding bounded
 bounded-small d = as-judged (deskWhy d) (desk-small d)
   where
-    as-judged : (j : Judged) → Small j → Small (byBounded (boundedAs j (bound d (decisions d))))
+    as-judged : (j : Judged) → Small j → Small (byBounded (boundedAs j (lossesAt d (decisions d))))
     as-judged Fine e = e
     as-judged (Refused r) e = e
 
@@ -181,37 +181,22 @@ as-written : (j : Judged) (n : ℕ) → Small j → Small (byWritten (writtenAs 
 as-written Fine n e = e
 as-written (Refused r) n e = e
 
-pub written-small : (n budget : ℕ) (table out : List ℕ) → Small (byWritten (written n budget table out))
-unfolding written writeWhy
-written-small n budget table out =
+text-small : (before : Judged) (text out : List ℕ) → Small before → Small (byWritten (textWritten before text out))
+unfolding textWritten textWhy
+text-small before text out small =
     as-written
-    (writeWhy n budget table out)
-    _
-    (order-small
-    (tableWhy n table)
-    _
-    (table-small n table)
-    (refuse-small (ltb (length out) (length (tableText n budget table))) NoRoom Fine (omega arith) (λ _. omega arith)))
+    (textWhy before text out)
+    (length text)
+    (order-small before _ small (refuse-small (ltb (length out) (length text)) NoRoom Fine (omega arith) (λ _. omega arith)))
+
+pub written-small : (n budget : ℕ) (table out : List ℕ) → Small (byWritten (written n budget table out))
+written-small n budget table out = text-small (tableWhy n table) (tableText n budget table) out (table-small n table)
 
 pub wcnf-written-small : (n : ℕ) (table out : List ℕ) → Small (byWritten (wcnfWritten n table out))
-unfolding wcnfWritten wcnfWriteWhy
-wcnf-written-small n table out =
-    as-written
-    (wcnfWriteWhy n table out)
-    _
-    (order-small
-    (tableWhy n table)
-    _
-    (table-small n table)
-    (refuse-small (ltb (length out) (length (wcnfText n table))) NoRoom Fine (omega arith) (λ _. omega arith)))
+wcnf-written-small n table out = text-small (tableWhy n table) (wcnfText n table) out (table-small n table)
 
 pub answered-small : (input output : List ℕ) → Small (byWritten (answered input output))
-unfolding answered answerWhy
-answered-small input output =
-    as-written
-    (answerWhy input output)
-    _
-    (refuse-small (ltb (length output) (length (answer input))) NoRoom Fine (omega arith) (λ _. omega arith))
+answered-small input output = text-small Fine (answer input) output (omega arith)
 
 -- lines
 

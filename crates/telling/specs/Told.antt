@@ -38,11 +38,11 @@ weightOut (Weighed.Weight w) found = w
 weightOut (Weighed.Refused r) found = found
 
 abbrev pub byBounded : Bounded → Judged
-byBounded (Bounded.Bound b) = Fine
+byBounded (Bounded.Bound l) = Fine
 byBounded (Bounded.Refused r) = Refused r
 
-abbrev pub boundOut : Bounded → ℕ → ℕ
-boundOut (Bounded.Bound b) found = b
+abbrev pub boundOut : Bounded → List ℕ → List ℕ
+boundOut (Bounded.Bound l) found = l .conceded ∷ l .lost ∷ l .foreseen ∷ []
 boundOut (Bounded.Refused r) found = found
 
 abbrev pub statusWord : Status → ℕ

@@ -4,6 +4,7 @@ pub mod Cuts
 pub mod Numbers
 pub mod Branches
 pub mod Pieces
+pub mod LentBytes
 pub mod RowWords
 pub mod Reading
 pub mod Writing

@@ -10,8 +10,8 @@ use Rattle.masks.proofs.Sums.{sum-ext}
 use Rattle.literals.specs.Lits.{isEmpty, sameLits}
 use Rattle.rules.specs.declared.Part.{Part}
 use Rattle.rules.specs.declared.Row.{Row}
-use Rattle.rules.specs.Desk.{variables, inUse, decided, rowOn}
-use Rattle.rules.specs.Bound.{weightWhere, lostBeyond, lost, unitWeight, foreseenAt, foreseen, bound}
+use Rattle.rules.specs.Desk.{variables, inUse, decided, rowOn, decisions}
+use Rattle.rules.specs.Bound.{weightWhere, lostBeyond, lost, unitWeight, foreseenAt, foreseen, bound, lossesAt}
 use Rattle.rules.specs.Walk.{walk, undecided, atStart, walkOf, triedFirst, walkIn}
 use Rattle.desk_laws.proofs.Alike.{Alike, weight-alike, decisions-alike}
 
@@ -35,6 +35,13 @@ module _ {d e : List ℕ} (alike : Alike d e) where
   unfolding bound lost lostBeyond
   bound-alike p =
       ap₂ (λ (x y : ℕ). x + y) (ap₂ (λ (x y : ℕ). x + y) (alike .heads 4 (omega arith)) (rows-alike (weightWhere isEmpty p))) (foreseen-alike p)
+
+  pub losses-alike : lossesAt e (decisions e) ≡ lossesAt d (decisions d)
+  unfolding lossesAt lostBeyond
+  losses-alike =
+      let p = decisions d in
+      ap (lossesAt e) (decisions-alike alike)
+      ∙ (λ t. record { conceded = alike .heads 4 (omega arith) t; lost = rows-alike (weightWhere isEmpty p) t; foreseen = foreseen-alike p t })
 
   pub walk-alike : (budget : ℕ) → walkIn e budget ≡ walkIn d budget
   unfolding walkOf atStart

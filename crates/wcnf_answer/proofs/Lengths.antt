@@ -1,49 +1,44 @@
 -- No answer is longer than the lines of a search can be, so that a buffer of that size never refuses one.
-use Prim.Native.Nat.{ℕ, _+_, _*_, _≤_}
-use mathlib.Core.Path.{_≡_, refl, sym, _∙_}
+use Prim.Native.Nat.{ℕ, _*_, _≤_}
+use mathlib.Core.Path.{_≡_, refl, subst}
 use mathlib.Core.Logic.{⊎-elim}
-use mathlib.Core.List.{List, _++_}
-use native.Mathlib.Nat.{zero-add}
+use mathlib.Core.List.{List}
 use native.Mathlib.Omega.{arith}
-use lib.ListN.{length, take, drop}
-use lib.Seq.{sets-eq, take-at}
+use lib.ListN.{length}
 use Rattle.masks.proofs.Choice.{lt-or-le}
-use Rattle.rules.specs.declared.Refusal.the-variants.{InputTooLong}
 use Rattle.rules.specs.declared.WcnfRead.{WcnfRead}
-use Rattle.rules.specs.declared.Written.{Written}
+use Rattle.rules.specs.declared.Judged.the-variants.{Fine}
 use Rattle.rules.specs.Table.{rowWords, mostRows}
 use Rattle.rules.specs.Walk.{mostBudget}
 use Rattle.rules.specs.WcnfReader.{wcnfWords, wcnfRead}
-use Rattle.rules.specs.Program.{mostInput, tableSearched}
-use Rattle.rules.specs.WcnfProgram.{wcnfAnswer, wcnfAnswered, wcnfAnswerOut}
+use Rattle.rules.specs.Program.{mostInput}
+use Rattle.rules.specs.WcnfProgram.{wcnfOutcomeOf, wcnfAnswer, wcnfAnswerWhy}
+use Rattle.text_laws.proofs.LentBytes.{text-fine}
+use Rattle.readings.specs.Line.{Counted}
+use Rattle.outcomes.proofs.Counting.{table-counted}
 use Rattle.wcnf_lines.specs.Lengths.{mostAnswer}
-use Rattle.wcnf_lines.proofs.Lengths.{refusal-length, searched-length}
+use Rattle.wcnf_lines.proofs.Lengths.{outcome-length}
 use Rattle.wcnf_laws.proofs.Found.{read-fine}
-use Rattle.wcnf_answer.proofs.Answering.{too-long, not-read, read, room}
+use Rattle.wcnf_answer.proofs.Answering.{too-long, not-read, read}
 
-pub answer-length : (input : List ℕ) → length (wcnfAnswer input) ≤ mostAnswer
-answer-length input =
+-- what is searched was read, and so has few variables
+pub outcome-counted : (input : List ℕ) → Counted (wcnfOutcomeOf input)
+outcome-counted input =
     ⊎-elim
-    (λ h. rw (← too-long input h) (refusal-length InputTooLong))
+    (λ h. subst Counted (too-long input h) tt)
     (λ short. by-text short (wcnfRead input (rowWords * mostRows)) refl)
     (lt-or-le mostInput (length input))
   where
-    by-text : length input ≤ mostInput → (t : WcnfRead) → wcnfRead input (rowWords * mostRows) ≡ t → length (wcnfAnswer input) ≤ mostAnswer
+    by-text : length input ≤ mostInput → (t : WcnfRead) → wcnfRead input (rowWords * mostRows) ≡ t → Counted (wcnfOutcomeOf input)
     by-text short (WcnfRead.Table n m) e =
-        let words = wcnfWords input in
-        rw (← read input short (rowWords * mostRows) n m words refl e refl)
-        (searched-length n (tableSearched n mostBudget m words) (read-fine input (rowWords * mostRows) n m e .variables))
-    by-text short (WcnfRead.Refused r) e = rw (← not-read input short (rowWords * mostRows) r refl e) (refusal-length r)
+        subst Counted (read input short (rowWords * mostRows) n m (wcnfWords input) refl e refl)
+        (table-counted n mostBudget m (wcnfWords input) (read-fine input (rowWords * mostRows) n m e .variables))
+    by-text short (WcnfRead.Refused r) e = subst Counted (not-read input short (rowWords * mostRows) r refl e) tt
 
--- so bytes enough for any answer get it whole
-module _ (input output : List ℕ) (enough : mostAnswer ≤ length output) where
-  pub always-written : wcnfAnswered input output ≡ Written.Bytes (length (wcnfAnswer input))
-  always-written = sym (room input output (omega (arith, answer-length input)) .0)
+pub answer-length : (input : List ℕ) → length (wcnfAnswer input) ≤ mostAnswer
+unfolding wcnfAnswer
+answer-length input = outcome-length (wcnfOutcomeOf input) (outcome-counted input)
 
-  pub at-front : take (length (wcnfAnswer input)) (wcnfAnswerOut input output) ≡ wcnfAnswer input
-  at-front =
-      let text = wcnfAnswer input in
-      let fits : 0 + length text ≤ length output = omega (arith, answer-length input) in
-      let out : wcnfAnswerOut input output ≡ text ++ drop (length text) output =
-      sym (room input output (omega (arith, answer-length input)) .1) ∙ sets-eq text output 0 fits ∙ rw (zero-add (length text)) in
-      rw out (take-at text (drop (length text) output) (length text) refl)
+-- so bytes enough for any answer get it
+pub never-refused : (input output : List ℕ) → mostAnswer ≤ length output → wcnfAnswerWhy input output ≡ Fine
+never-refused input output enough = text-fine Fine (wcnfAnswer input) output refl (omega (arith, answer-length input, enough))

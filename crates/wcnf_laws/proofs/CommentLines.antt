@@ -9,7 +9,7 @@ use lib.Dec.{eqb}
 use lib.ListN.{length, getD}
 use Rattle.rules.specs.declared.WcnfHead.{WcnfHead}
 use Rattle.rules.specs.Text.{bytes, lineFeed}
-use Rattle.rules.specs.Reader.{stands, ended}
+use Rattle.rules.specs.Reader.{stands}
 use Rattle.rules.specs.WcnfReader.{feedFrom, headerAt, headerFrom}
 use Rattle.text_laws.specs.Lines.{NoFeed}
 use Rattle.text_laws.proofs.Stands.{stands-none, first-stands, cons-stands, front-byte, behind-byte, inside}

@@ -14,7 +14,7 @@ use Rattle.rules.specs.Program.{programDesk}
 use Rattle.rules.specs.Wcnf.{topOf, spacedLiteral, spacedLits, clauseText, clausesText, wcnfText}
 use Rattle.rules.specs.WcnfReader.{spaceRun, partedAt, feedFrom, headerAt, headerFrom, headerOf}
 use Rattle.rules.specs.WcnfReader.{membersFrom, litsOfMembers, someAbove, badMembers, clausesWhy, wcnfReadWhy, clausesWords, wcnfWords, wcnfRead}
-use Rattle.rules.specs.WcnfProgram.{wcnfRefusalText, wcnfFoundText, wcnfAnswer}
+use Rattle.rules.specs.WcnfProgram.{wcnfRefusalText, wcnfFoundText, wcnfOutcomeOf, wcnfAnswer}
 use Rattle.rules.specs.Examples.{allRight}
 use Rattle.wcnf_laws.specs.Examples.{examples}
 
@@ -24,5 +24,5 @@ unfolding bit has count without none below single sum every size isPositive bitO
     decisions satisfied remnant weightWhere lostBeyond lost unitWeight foreseenAt foreseen bound fixed visited keptAt halted walk undecided atStart
     walkOf bytes digits numberText line stands isDigit digitRun valueOf numberAt programDesk topOf spacedLiteral spacedLits clauseText clausesText
     wcnfText spaceRun partedAt feedFrom headerAt headerFrom headerOf membersFrom litsOfMembers someAbove badMembers clausesWhy wcnfReadWhy
-    clausesWords wcnfWords wcnfRead wcnfRefusalText wcnfFoundText wcnfAnswer
+    clausesWords wcnfWords wcnfRead wcnfRefusalText wcnfFoundText wcnfOutcomeOf wcnfAnswer
 examples-right = tt

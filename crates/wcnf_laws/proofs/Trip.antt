@@ -9,8 +9,7 @@ use native.Mathlib.Omega.{arith}
 use borrow.Author.Tests.{lt-ltb, le-ltb, lt-leb}
 use lib.Bits.{bitAnd}
 use lib.IntN.{ℤ, pos, negsuc}
-use lib.ListN.{length, drop, take}
-use lib.Seq.{take-at}
+use lib.ListN.{length, drop}
 use lib.Pow.{pow-mono}
 use Rattle.masks.specs.Masks.{has, none}
 use Rattle.masks.proofs.Bits.{below-lt}
@@ -23,12 +22,13 @@ use Rattle.rules.specs.declared.WcnfRead.{WcnfRead}
 use Rattle.rules.specs.declared.Refusal.the-variants.{NoRoom}
 use Rattle.rules.specs.declared.Judged.the-variants.{Fine, Refused}
 use Rattle.rules.specs.Table.{rowWords, mostRows, rowOf, rowCount, rowWordsOf, newRow, badLits, tableWhy}
-use Rattle.rules.specs.Text.{bytes, lineFeed, space, minus, digitZero, mostDigits, numberText}
+use Rattle.rules.specs.Text.{bytes, lineFeed, space, minus, digitZero, mostDigits, numberText, textWhy}
 use Rattle.rules.specs.Wcnf.{topOf, spacedLiteral, spacedLits, clauseText, clausesText, wcnfText}
 use Rattle.rules.specs.WcnfReader.{litsOfMembers, wcnfReadWhy, wcnfWords, wcnfRead, wcnfTable}
-use Rattle.rules.specs.Wcnf.{wcnfWriteWhy, wcnfWritten, wcnfOut}
+use Rattle.rules.specs.Wcnf.{wcnfWriteWhy}
 use Rattle.rules.proofs.Admissible.{RowFine, TableFine, table-fine}
 use Rattle.rules.proofs.Judging.{order-fine, words-fine}
+use Rattle.text_laws.proofs.LentBytes.{text-written, text-at-front}
 use Rattle.text_laws.proofs.Rows.{wordsFrom, words-all}
 use Rattle.wcnf_laws.specs.Back.{ReadBack, Returns}
 use Rattle.wcnf_laws.specs.Form.{gap, literalsBytes, ClauseLine, clauseBytes, HeaderLine, headerBytes, Form, linesText, underComments, formText}
@@ -315,16 +315,15 @@ module _ (n : ℕ) (table : List ℕ) (ok : tableWhy n table ≡ Fine) where
 -- ---- what an accepted writer leaves
 
 pub returns : (n : ℕ) (table out : List ℕ) → wcnfWriteWhy n table out ≡ Fine → Returns n table out
-unfolding wcnfWriteWhy wcnfWritten wcnfOut
+unfolding textWhy
 returns n table out e =
     let text = wcnfText n table in
     let ok = order-fine (tableWhy n table) _ e .0 in
     let back = read-back n table ok in
-    let left : wcnfOut n table out ≡ text ++ drop (length text) out = words-fine (wcnfWriteWhy n table out) (text ++ drop (length text) out) out e in
-    let front : take (length text) (wcnfOut n table out) ≡ text = ap (take (length text)) left ∙ take-at text (drop (length text) out) (length text) refl in
+    let front = text-at-front (tableWhy n table) text out e in
     record {
       count = length text;
-      written = rw e;
+      written = text-written (tableWhy n table) text out e .0;
       answer = λ room h. ap (λ (s : List ℕ). wcnfRead s room) front ∙ back .answer room h;
       lent = λ found h. ap (λ (s : List ℕ). wcnfTable s found) front ∙ back .lent found h;
     }

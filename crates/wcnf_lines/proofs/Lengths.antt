@@ -7,12 +7,13 @@ use lib.ListN.{length, length-append}
 use Rattle.literals.specs.Literal.{mostVariables}
 use Rattle.rules.specs.declared.Refusal.{Refusal}
 use Rattle.rules.specs.declared.Found.{Found}
-use Rattle.rules.specs.declared.Searched.{Searched}
+use Rattle.rules.specs.declared.Outcome.{Outcome}
 use Rattle.rules.specs.Refusals.{numbered, numberOf, placeOf}
 use Rattle.rules.specs.Text.{numberText}
-use Rattle.rules.specs.WcnfProgram.{statementText, wcnfRefusalText, bestWeightText, valuesText, wcnfFoundText, wcnfSearchedText}
+use Rattle.rules.specs.WcnfProgram.{statementText, wcnfRefusalText, bestWeightText, valuesText, wcnfFoundText, wcnfOutcomeText}
 use Rattle.text_laws.specs.Pieces.{lineText}
 use Rattle.text_laws.proofs.Pieces.{number-length, line-length}
+use Rattle.readings.specs.Line.{Counted}
 use Rattle.wcnf_lines.specs.Keys.{placeKey, unknownLine, nodesKey}
 use Rattle.wcnf_lines.specs.Lengths.{mostAnswer}
 use Rattle.wcnf_lines.proofs.Written.{refusal-is, found-is, weight-length, statement-length, values-length}
@@ -36,6 +37,6 @@ found-length n f h =
     let values = values-length n (f .best) h in
     rw (found-is n f, length-append k (w ++ (s ++ v)), length-append w (s ++ v), length-append s v) (omega arith)
 
-pub searched-length : (n : ℕ) (s : Searched) → n ≤ mostVariables → length (wcnfSearchedText n s) ≤ mostAnswer
-searched-length n (Searched.Found found) h = found-length n found h
-searched-length n (Searched.Refused r) h = refusal-length r
+pub outcome-length : (o : Outcome) → Counted o → length (wcnfOutcomeText o) ≤ mostAnswer
+outcome-length (Outcome.Searched n root f) h = found-length n f h
+outcome-length (Outcome.Refused r) h = refusal-length r

@@ -11,12 +11,11 @@ use Rattle.rules.specs.declared.Refusal.{Refusal}
 use Rattle.rules.specs.declared.Status.{Status}
 use Rattle.rules.specs.declared.Best.{Best}
 use Rattle.rules.specs.declared.Found.{Found}
-use Rattle.rules.specs.declared.Searched.{Searched}
 use Rattle.rules.specs.Refusals.{numbered, numberOf, placeOf}
 use Rattle.rules.specs.Text.{bytes, line, numberText, lineFeed}
 use Rattle.rules.specs.Wcnf.{spacedLits}
 use Rattle.rules.specs.Program.{literalsOf}
-use Rattle.rules.specs.WcnfProgram.{statementText, wcnfRefusalText, bestWeightText, valuesText, wcnfFoundText, wcnfSearchedText}
+use Rattle.rules.specs.WcnfProgram.{statementText, wcnfRefusalText, bestWeightText, valuesText, wcnfFoundText}
 use Rattle.text_laws.specs.Pieces.{lineText}
 use Rattle.text_laws.proofs.Pieces.{line-length}
 use Rattle.spaced_written.proofs.Pieces.{spaced-length}
@@ -64,12 +63,6 @@ pub found-is : (n : ℕ) (f : Found)
     → wcnfFoundText n f ≡ lineText nodesKey (f .nodes) ++ (bestWeightText (f .best) ++ (statementText (f .status) ++ valuesText n (f .best)))
 unfolding wcnfFoundText line bytes lineText
 found-is n f = refl
-
-pub searched-refused : (n : ℕ) (s : Searched) (r : Refusal) → s ≡ Searched.Refused r → wcnfSearchedText n s ≡ wcnfRefusalText r
-searched-refused n s r e = rw e
-
-pub searched-found : (n : ℕ) (s : Searched) (f : Found) → s ≡ Searched.Found f → wcnfSearchedText n s ≡ wcnfFoundText n f
-searched-found n s f e = rw e
 
 -- ---- how long they are
 

@@ -1,15 +1,16 @@
 // Each line where the one before it ends. A variable that is counted has a bit in a reading.
 ghost use Prim.Native.Nat.{_+_, _≤_, _^_};
 ghost use Rattle.literals.specs.Literal.{mostVariables};
-ghost use Rattle.rules.specs.WcnfProgram.{statementText, wcnfRefusalText, bestWeightText, valuesText, wcnfFoundText, wcnfSearchedText};
+ghost use Rattle.rules.specs.WcnfProgram.{statementText, wcnfRefusalText, bestWeightText, valuesText, wcnfFoundText, wcnfOutcomeText};
 ghost use Rattle.pieces_written.specs.Stored.{Stored};
+ghost use Rattle.readings.specs.Line.{Counted};
 ghost use Rattle.wcnf_lines.specs.Lengths.{mostWeightLine, mostStatementLine, mostValuesLine};
 use pieces_written::inner;
 use readings::inner::literals_of;
 use rules::Best;
 use rules::Found;
+use rules::Outcome;
 use rules::Refusal;
-use rules::Searched;
 use rules::Status;
 use spaced_written::inner::put_spaced_lits;
 use values::numbered;
@@ -73,13 +74,17 @@ fn put_found(out: &mut [u8], variables: u64, found: Found) -> usize
     put_values(out, fourth, variables, best)
 }
 
-// What a search of so many variables came to.
-pub fn put_outcome(out: &mut [u8], variables: u64, searched: Searched) -> usize
-    requires { ⌜ variables ≤ mostVariables ⌝ }
-    ensures { λ r. ⌜ Stored (now (out .entry)) 0 (wcnfSearchedText variables searched) r (now (out .exit)) ⌝ }
+// What an input came to.
+pub fn put_outcome(out: &mut [u8], outcome: Outcome) -> usize
+    requires { ⌜ Counted outcome ⌝ }
+    ensures { λ r. ⌜ Stored (now (out .entry)) 0 (wcnfOutcomeText outcome) r (now (out .exit)) ⌝ }
 {
-    match searched {
-        Searched::Refused(why) => put_refusal(out, why),
-        Searched::Found(found) => put_found(out, variables, found),
+    match outcome {
+        Outcome::Refused(why) => put_refusal(out, why),
+        Outcome::Searched {
+            variables,
+            root: _,
+            found,
+        } => put_found(out, variables, found),
     }
 }

@@ -9,7 +9,6 @@ ghost use Rattle.wcnf_pieces.specs.Clauses.{signedAt, memberAt, ofSign, 
 use crate::ClauseRead;
 use crate::Gathered;
 use crate::SignedRead;
-use crate::gaps;
 use literals::Literal;
 use literals::Lits;
 use literals::Offered;
@@ -48,7 +47,7 @@ fn signed_at(s: &[u8], at: usize) -> SignedRead
 fn member_at(s: &[u8], at: usize) -> SignedRead
     ensures { λ r. ⌜ r ≡ memberAt (now (s .entry)) at ⌝ }
 {
-    let gap = gaps::space_run(s, at);
+    let gap = gaps_read::space_run(s, at);
     if gap == 0 {
         return SignedRead::Broken;
     }

@@ -1,15 +1,11 @@
-// The pieces that a competition file is read of: gaps of one or more spaces, lines passed over, a clause up to its closing 0.
+// A clause of a competition file up to its closing 0, as a row.
 // What is read is judged elsewhere; here a clause says only whether its literals are bad.
 use literals::Lits;
 use rules::Row;
 
 mod clauses;
-mod gaps;
 
 pub use clauses::clause_at;
-pub use gaps::feed_from;
-pub use gaps::parted_at;
-pub use gaps::space_run;
 
 // A signed number of a text, which need be no literal, by its size and sign, and the place behind it.
 pub enum SignedRead {

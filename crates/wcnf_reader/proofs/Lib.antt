@@ -1,3 +1,2 @@
-pub mod Heading
 pub mod Turns
 pub mod Rest

@@ -1,7 +1,7 @@
 -- What is read behind the header, refused or fine, is what the whole text comes to. Where all is fine there is room for the words, so that
 -- storing them one by one is putting them in front of the rest.
 use Prim.Native.Nat.{ℕ, suc, _+_, _*_, _<_, _≤_}
-use mathlib.Core.Path.{_≡_, refl, sym, ap, _∙_}
+use mathlib.Core.Path.{_≡_, refl, _∙_}
 use mathlib.Core.List.{List}
 use native.Mathlib.Nat.{zero-add}
 use native.Mathlib.Omega.{arith}
@@ -21,7 +21,7 @@ use Rattle.rules.specs.WcnfReader.{headerOf, clausesWhy, headerWhy, wcnfReadWhy
 use Rattle.rules.proofs.Judging.{refuse-fine}
 use Rattle.text_laws.proofs.Matched.{matched}
 use Rattle.wcnf_reader.specs.Behind.{readBehind, storedBehind}
-use Rattle.wcnf_reader.proofs.Heading.{line-small}
+use Rattle.wcnf_headers.proofs.Heading.{line-small}
 use Rattle.wcnf_reader.proofs.Turns.{words-length}
 
 -- ---- the header's figures, in order

@@ -10,7 +10,6 @@ use rules::WcnfHead;
 use rules::WcnfRead;
 
 mod clauses;
-mod headers;
 
 // The rest of a text whose header says this, with what follows it from a place on.
 fn read_rest(
@@ -43,7 +42,7 @@ pub fn read_wcnf(s: &[u8], table: &mut [u64]) -> WcnfRead
     ensures answer { λ r. ⌜ r ≡ wcnfRead (now (s .entry)) (length (now (table .entry))) ⌝ }
     ensures words { λ _. ⌜ now (table .exit) ≡ wcnfTable (now (s .entry)) (now (table .entry)) ⌝ }
 {
-    match headers::header_of(s) {
+    match wcnf_headers::header_of(s) {
         WcnfHead::Broken(line) => WcnfRead::Refused(Refusal::BadText(line)),
         WcnfHead::Figures {
             variables,

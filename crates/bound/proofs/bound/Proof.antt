@@ -1,10 +1,10 @@
 -- `bound` meets its contract: a well-formed desk can be read, and any other is refused.
 use borrow.Author.Needs.{needs}
 use mathlib.Core.Path.{sym, ap, _∙_}
-use Prim.Native.Nat.{ℕ}
 use Rattle.rules.specs.declared.Part.{Part}
+use Rattle.rules.specs.declared.Losses.{Losses}
 use Rattle.rules.specs.declared.Bounded.{Bounded}
-use Rattle.rules.specs.Bound.{bound, deskWhy, bounded}
+use Rattle.rules.specs.Bound.{lossesAt, deskWhy, bounded}
 use Rattle.bound.proofs.Fits.{readable}
 use Rattle.bound.proofs.bound.Statement.{statement}
 use Rattle.bound.proofs.bound.Tie as tie
@@ -15,8 +15,8 @@ well-formed-requires c κs = search needs
 decisions-requires : tie.Need-decisions-requires
 decisions-requires c κs = search needs
 
-bound-at-requires : tie.Need-bound-at-requires
-bound-at-requires c κs =
+losses-at-requires : tie.Need-losses-at-requires
+losses-at-requires c κs =
     readable (c .before .before .before .before .args .desk .now) (sym (c .before .before .well-formed .ensures) ∙ c .before .if1 .taken)
 
 returns : tie.Need-returns
@@ -24,7 +24,7 @@ unfolding bounded deskWhy
 returns c =
     let d = c .before .before .before .before .before .args .desk .now in
     rw (sym (c .before .before .before .well-formed .ensures) ∙ c .before .before .if1 .taken)
-    (ap (λ (b : ℕ). Bounded.Bound b) (c .bound-at .ensures ∙ ap (λ (p : Part). bound d p) (c .before .decisions .ensures)))
+    (ap (λ (l : Losses). Bounded.Bound l) (c .losses-at .ensures ∙ ap (λ (p : Part). lossesAt d p) (c .before .decisions .ensures)))
 
 returns-2 : tie.Need-returns-2
 unfolding bounded deskWhy
@@ -33,4 +33,4 @@ returns-2 c = rw (sym (c .before .well-formed .ensures) ∙ c .if1 .left)
 pub bound-spec : {M : Type 1} → statement M
 bound-spec =
     tie.close
-    (tie.spec well-formed-requires decisions-requires bound-at-requires returns returns-2)
+    (tie.spec well-formed-requires decisions-requires losses-at-requires returns returns-2)

@@ -22,13 +22,13 @@ returns : tie.Need-returns
 returns c =
     let start = c .before .before .before .before .before .before in
     let e = sym (c .before .before .before .before .bound .ensures) ∙ c .before .before .r .given .1 in
-    (c .tell .ensures ∙ sym (ap (λ x. told (byBounded x)) e), sym (ap (λ x. boundOut x (start .args .least .now)) e))
+    (c .tell .ensures ∙ sym (ap (λ x. told (byBounded x)) e), sym (ap (λ x. boundOut x (start .args .losses .now)) e))
 
 returns-2 : tie.Need-returns-2
 returns-2 c =
-    let start = c .before .before .before .before .before in
-    let e = sym (c .before .before .before .bound .ensures) ∙ c .before .b .given .1 in
-    (sym (ap (λ x. told (byBounded x)) e), sym (ap (λ x. boundOut x (start .args .least .now)) e))
+    let start = c .before .before .before .before .before .before in
+    let e = sym (c .before .before .before .before .bound .ensures) ∙ c .before .before .b .given .1 in
+    (sym (ap (λ x. told (byBounded x)) e), sym (ap (λ x. boundOut x (start .args .losses .now)) e))
 
 pub olikumpasho-bound-spec : {M : Type 1} → statement M
 olikumpasho-bound-spec =

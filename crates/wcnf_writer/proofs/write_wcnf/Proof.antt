@@ -5,7 +5,7 @@ use borrow.Author.Needs.{needs}
 use Rattle.rules.specs.declared.Written.{Written}
 use Rattle.rules.proofs.Admissible.{table-fine}
 use Rattle.text_laws.proofs.Matched.{matched}
-use Rattle.wcnf_writer.proofs.Judging.{write-refused, write-no-room, write-fine}
+use Rattle.text_laws.proofs.LentBytes.{text-refused, text-no-room, text-stored}
 use Rattle.wcnf_writer.proofs.write_wcnf.Statement.{statement}
 use Rattle.wcnf_writer.proofs.write_wcnf.Tie as tie
 
@@ -29,9 +29,8 @@ put-file-requires c κs =
 returns : tie.Need-returns
 returns c =
     let judged = c .before .before .before .before in
-    let a = judged .before .before .before .before .before .args in
     let long = c .before .before .put-file .ensures .place ∙ zero-add _ in
-    write-no-room (a .variables) (a .table .now) (a .out .now) (matched (judged .before .before .table-why .ensures) (judged .enum-told .given .1))
+    text-no-room _ _ _ (matched (judged .before .before .table-why .ensures) (judged .enum-told .given .1))
     (rw long at (c .if1 .taken))
 
 put-file-requires-2 : tie.Need-put-file-requires-2
@@ -42,8 +41,7 @@ put-file-requires-2 c κs =
 
 returns-2 : tie.Need-returns-2
 returns-2 c =
-    let a = c .before .before .before .before .before .before .args in
-    write-refused (a .variables) (a .table .now) (a .out .now) _ (matched (c .before .before .before .table-why .ensures) (c .before .why .given .1))
+    text-refused _ _ _ _ (matched (c .before .before .before .table-why .ensures) (c .before .why .given .1))
 
 same-length : tie.Need-same-length
 same-length c = search needs
@@ -53,9 +51,8 @@ returns-3 c =
     let there = c .before .before in
     let nowhere = there .before .before .before .before in
     let judged = nowhere .before .before in
-    let a = judged .before .before .before .before .before .args in
     let long = nowhere .put-file .ensures .place ∙ zero-add _ in
-    let fine = write-fine (a .variables) (a .table .now) (a .out .now)
+    let fine = text-stored _ _ _
     (matched (judged .before .before .table-why .ensures) (judged .enum-told .given .1)) (rw long at (there .before .before .if1 .left)) in
     (ap Written.Bytes long ∙ fine .0, there .put-file2 .ensures .bytes ∙ fine .1)
 

@@ -5,7 +5,7 @@ use borrow.Author.Needs.{needs}
 use Rattle.rules.specs.declared.Written.{Written}
 use Rattle.rules.proofs.Admissible.{table-fine}
 use Rattle.text_laws.proofs.Matched.{matched}
-use Rattle.writer.proofs.Judging.{write-refused, write-no-room, write-fine}
+use Rattle.text_laws.proofs.LentBytes.{text-refused, text-no-room, text-stored}
 use Rattle.writer.proofs.write.Statement.{statement}
 use Rattle.writer.proofs.write.Tie as tie
 
@@ -27,9 +27,8 @@ put-table-requires c κs = table-fine _ _ (matched (c .before .before .before .t
 returns : tie.Need-returns
 returns c =
     let judged = c .before .before .before .before in
-    let a = judged .before .before .before .before .before .args in
     let long = c .before .before .put-table .ensures .place ∙ zero-add _ in
-    write-no-room (a .variables) (a .budget) (a .table .now) (a .out .now)
+    text-no-room _ _ _
     (matched (judged .before .before .table-why .ensures) (judged .enum-told .given .1))
     (rw long at (c .if1 .taken))
 
@@ -40,8 +39,7 @@ put-table-requires-2 c κs =
 
 returns-2 : tie.Need-returns-2
 returns-2 c =
-    let a = c .before .before .before .before .before .before .args in
-    write-refused (a .variables) (a .budget) (a .table .now) (a .out .now) _
+    text-refused _ _ _ _
     (matched (c .before .before .before .table-why .ensures) (c .before .why .given .1))
 
 same-length : tie.Need-same-length
@@ -52,9 +50,8 @@ returns-3 c =
     let there = c .before .before in
     let nowhere = there .before .before .before .before in
     let judged = nowhere .before .before in
-    let a = judged .before .before .before .before .before .args in
     let long = nowhere .put-table .ensures .place ∙ zero-add _ in
-    let fine = write-fine (a .variables) (a .budget) (a .table .now) (a .out .now)
+    let fine = text-stored _ _ _
     (matched (judged .before .before .table-why .ensures) (judged .enum-told .given .1))
     (rw long at (there .before .before .if1 .left)) in
     (ap Written.Bytes long ∙ fine .0, there .put-table2 .ensures .bytes ∙ fine .1)

@@ -6,25 +6,19 @@ use mathlib.Core.List.{[], _++_, append-nil}
 use native.Mathlib.Omega.{arith}
 use borrow.Author.Needs.{needs}
 use lib.ListN.{length, take, replicate}
-use Rattle.rules.specs.declared.Refusal.the-variants.{InputTooLong}
 use Rattle.rules.specs.Table.{rowWords, mostRows}
 use Rattle.rules.specs.Desk.{headWords}
-use Rattle.rules.specs.Program.{searchedText, answer}
 use Rattle.text_laws.proofs.Matched.{matched}
 use Rattle.text_laws.proofs.Found.{ReadFine, read-fine, front-words}
 use Rattle.outcomes.proofs.Heads.{first-read}
-use Rattle.outcomes.proofs.Saying.{says-refused, says-searched}
 use Rattle.answer.proofs.Answering.{too-long, not-read, read}
 use Rattle.answer.proofs.inputs.outcome_of.Statement.{statement}
 use Rattle.answer.proofs.inputs.outcome_of.Tie as tie
 
-refused-requires : tie.Need-refused-requires
-refused-requires c κs = search needs
-
 returns : tie.Need-returns
 returns c =
-    let input = c .before .before .before .args .input .now in
-    says-refused searchedText (answer input) InputTooLong (c .refused .ensures) (too-long input (c .before .if1 .taken))
+    let input = c .before .before .args .input .now in
+    too-long input (c .if1 .taken)
 
 sub-read : tie.Need-sub-read
 sub-read c = search needs
@@ -40,9 +34,6 @@ read-requires c κs = search needs
 
 enum-known-why : tie.Need-enum-known-why
 enum-known-why c = search needs
-
-refused-requires-2 : tie.Need-refused-requires-2
-refused-requires-2 c κs = search needs
 
 enum-known-variables : tie.Need-enum-known-variables
 enum-known-variables c = search needs
@@ -71,11 +62,11 @@ search-read-requires c κs = omega (arith, fine (c .before) .few, long c)
 
 returns-2 : tie.Need-returns-2
 returns-2 c =
-    let call = c .before .before .before .before .before in
+    let call = c .before .before .before .before in
     let short = call .before .before in
     let input = short .before .before .args .input .now in
-    let told = matched (call .read .ensures .0) (c .before .before .why .given .1) in
-    says-refused searchedText (answer input) _ (c .refused2 .ensures) (not-read input (short .if1 .left) _ _ refl told)
+    let told = matched (call .read .ensures .0) (c .before .why .given .1) in
+    not-read input (short .if1 .left) _ _ refl told
 
 returns-3 : tie.Need-returns-3
 returns-3 c =
@@ -88,21 +79,18 @@ returns-3 c =
     let rows = found .variables .given .0 .1 .1 .0 in
     let stored = ap (take (rowWords * rows)) (call .read .ensures .1) ∙ front-words input table _ _ _ told in
     let words = first-read (rowWords * rows) _ ∙ stored in
-    says-searched searchedText (answer input) (found .variables .given .0 .0) _ (fine (c .before .before .before) .variables)
-    (c .before .search-read .ensures) (read input (short .if1 .left) _ _ _ _ _ refl told words)
+    c .before .search-read .ensures ∙ read input (short .if1 .left) _ _ _ _ _ refl told words
 
 pub outcome-of-spec : {M : Type 1} → statement M
 outcome-of-spec =
     tie.close
     (tie.spec
-    refused-requires
     returns
     sub-read
     part-words-start
     part-words-end
     read-requires
     enum-known-why
-    refused-requires-2
     enum-known-variables
     cast-search-read
     slice-aggregate-search-read

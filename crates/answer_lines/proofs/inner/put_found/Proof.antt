@@ -1,8 +1,9 @@
--- `put_found` meets its contract: the four lines, one behind the other.
+-- `put_found` meets its contract: the lines, one behind the other.
 use native.Mathlib.Omega.{arith}
 use borrow.Author.Needs.{needs}
 use Rattle.text_laws.proofs.Pieces.{line-length}
 use Rattle.pieces_written.proofs.Storing.{stored-both}
+use Rattle.readings.proofs.Cases.{reading-length}
 use Rattle.answer_lines.specs.Keys.{nodesKey}
 use Rattle.answer_lines.proofs.Written.{found-is, status-length, weight-length}
 use Rattle.answer_lines.proofs.inner.put_found.Statement.{statement}
@@ -41,20 +42,38 @@ put-reading-requires c κs =
     let nodes = line-length nodesKey (found .nodes) in
     (omega (arith, third .put-number-line .ensures .place, second .put-weight .ensures .place, first .put-status .ensures .place), start .pre)
 
+put-losses-requires : tie.Need-put-losses-requires
+put-losses-requires c κs =
+    let fourth = c .before .before .before in
+    let third = fourth .before .before .before .before in
+    let second = third .before .before .before .before .before in
+    let first = second .before .before .before .before in
+    let start = first .before .before .before in
+    let found = start .args .found in
+    let status = status-length (found .status) in
+    let weight = weight-length (found .best) in
+    let nodes = line-length nodesKey (found .nodes) in
+    let reading = reading-length (start .args .variables) (found .best) (start .pre) in
+    let fourth-place = fourth .put-reading .ensures .place in
+    let third-place = third .put-number-line .ensures .place in
+    omega (arith, fourth-place, third-place, second .put-weight .ensures .place, first .put-status .ensures .place)
+
 same-length : tie.Need-same-length
 same-length c = search needs
 
 returns : tie.Need-returns
 returns c =
-    let fourth = c .before .before in
+    let fifth = c .before .before in
+    let fourth = fifth .before .before .before .before in
     let third = fourth .before .before .before .before in
     let second = third .before .before .before .before .before in
     let first = second .before .before .before .before in
     let a = first .before .before .before .args in
-    rw (found-is (a .variables) (a .found))
+    rw (found-is (a .variables) (a .root) (a .found))
     (stored-both (first .put-status .ensures)
     (stored-both (second .put-weight .ensures)
-    (stored-both (third .put-number-line .ensures) (fourth .put-reading .ensures))))
+    (stored-both (third .put-number-line .ensures)
+    (stored-both (fourth .put-reading .ensures) (fifth .put-losses .ensures)))))
 
 pub put-found-spec : {M : Type 1} → statement M
 put-found-spec =
@@ -65,5 +84,6 @@ put-found-spec =
     slice-aggregate-put-number-line
     put-number-line-requires
     put-reading-requires
+    put-losses-requires
     same-length
     returns)

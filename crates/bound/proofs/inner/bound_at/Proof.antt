@@ -1,42 +1,42 @@
--- `bound_at` meets its contract: the sum of the three parts, which fit.
+-- `bound_at` meets its contract: the three parts, which fit, come to the bound.
+use mathlib.Core.Path.{_≡_, ap}
 use borrow.Author.Needs.{needs}
 use native.Mathlib.Omega.{arith}
-use Rattle.rules.specs.Bound.{lost, bound}
+use Rattle.rules.specs.declared.Losses.{Losses}
+use Rattle.rules.specs.Desk.{conceded}
+use Rattle.rules.specs.Bound.{lostBeyond, lost, foreseen, bound, lossesAt}
 use Rattle.bound.proofs.Fits.{lost-fits, foreseen-fits}
 use Rattle.bound.proofs.inner.bound_at.Statement.{statement}
 use Rattle.bound.proofs.inner.bound_at.Tie as tie
 
-word-requires : tie.Need-word-requires
-word-requires c κs = search needs
+losses-at-requires : tie.Need-losses-at-requires
+losses-at-requires c κs = search needs
 
-lost-beyond-requires : tie.Need-lost-beyond-requires
-lost-beyond-requires c κs = search needs
-
-foreseen-requires : tie.Need-foreseen-requires
-foreseen-requires c κs = search needs
+-- the three parts
+parts : (c : tie.After-losses-at) → let d = c .before .before .args .desk .now in let p = c .before .before .args .p in
+    (c .losses-at .result .conceded ≡ conceded d) × (c .losses-at .result .lost ≡ lostBeyond d p) × (c .losses-at .result .foreseen ≡ foreseen d p)
+unfolding lossesAt
+parts c =
+    let e = c .losses-at .ensures in
+    (ap (λ (l : Losses). l .conceded) e, ap (λ (l : Losses). l .lost) e, ap (λ (l : Losses). l .foreseen) e)
 
 add-result : tie.Need-add-result
 add-result c =
-    let s = c .before .before .before .before in
-    omega (arith, lost-fits (s .args .desk .now) (s .pre) (s .args .p), c .before .before .word .ensures, c .before .lost-beyond .ensures)
+    let here = c .before in
+    let s = here .before .before in
+    omega (arith, lost-fits (s .args .desk .now) (s .pre) (s .args .p), parts here .0, parts here .1)
 
 add-result-2 : tie.Need-add-result-2
 add-result-2 c =
-    let s = c .before .before .before .before in
-    omega (
-      arith,
-      lost-fits (s .args .desk .now) (s .pre) (s .args .p),
-      foreseen-fits (s .args .desk .now) (s .pre) (s .args .p),
-      c .before .before .word .ensures,
-      c .before .lost-beyond .ensures,
-      c .foreseen .ensures,
-    )
+    let here = c .before .before in
+    let s = here .before .before in
+    let lost = lost-fits (s .args .desk .now) (s .pre) (s .args .p) in
+    let foreseen = foreseen-fits (s .args .desk .now) (s .pre) (s .args .p) in
+    omega (arith, lost, foreseen, parts here .0, parts here .1, parts here .2)
 
 returns : tie.Need-returns
 unfolding bound lost
-returns c = omega (arith, c .before .before .word .ensures, c .before .lost-beyond .ensures, c .foreseen .ensures)
+returns c = let here = c .before .before in omega (arith, parts here .0, parts here .1, parts here .2)
 
 pub bound-at-spec : {M : Type 1} → statement M
-bound-at-spec =
-    tie.close
-    (tie.spec word-requires lost-beyond-requires foreseen-requires add-result add-result-2 returns)
+bound-at-spec = tie.close (tie.spec losses-at-requires add-result add-result-2 returns)

@@ -7,8 +7,7 @@ use lib.Seq.{length-take-le}
 use borrow.Author.Needs.{needs}
 use Rattle.rules.specs.Table.{rowWords}
 use Rattle.rules.specs.Desk.{headWords}
-use Rattle.rules.specs.Program.{tableSearched}
-use Rattle.outcomes.specs.Outcomes.{outcome}
+use Rattle.rules.specs.Program.{tableOutcome}
 use Rattle.outcomes.proofs.Heads.{behind-head}
 use Rattle.outcomes.proofs.inner.search_read.Statement.{statement}
 use Rattle.outcomes.proofs.inner.search_read.Tie as tie
@@ -43,7 +42,7 @@ returns c =
     let start = c .before .before .before .before .before in
     let a = start .args in
     let first = behind-head (rowWords * a .rows) (a .words .now) (omega (arith, start .pre)) in
-    ap (outcome (a .variables)) (c .before .before .search-rows .ensures ∙ ap (tableSearched (a .variables) (a .budget) (a .rows)) first)
+    c .before .before .search-rows .ensures ∙ ap (tableOutcome (a .variables) (a .budget) (a .rows)) first
 
 pub search-read-spec : {M : Type 1} → statement M
 search-read-spec =

@@ -4,7 +4,7 @@ use native.Mathlib.Omega.{arith}
 use borrow.Author.Needs.{needs}
 use lib.ListN.{length}
 use Rattle.text_laws.proofs.Matched.{matched}
-use Rattle.wcnf_pieces.proofs.Spaces.{run-inside}
+use Rattle.gaps_read.proofs.Spaces.{run-inside}
 use Rattle.wcnf_pieces.proofs.Members.{member-not, member-is}
 use Rattle.wcnf_pieces.proofs.clauses.member_at.Statement.{statement}
 use Rattle.wcnf_pieces.proofs.clauses.member_at.Tie as tie
