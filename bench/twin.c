@@ -69,13 +69,18 @@ static uint64_t foreseen(const struct search *s, uint64_t decided, uint64_t trut
     return positive < negative ? positive : negative;
 }
 
-static uint64_t bound(const struct search *s, uint64_t decided, uint64_t truths)
+static uint64_t foreseen_in_all(const struct search *s, uint64_t decided, uint64_t truths)
 {
-    uint64_t sum = lost(s, decided, truths);
+    uint64_t sum = 0;
     for (unsigned v = 0; v < s->variables; v++)
         if (!(decided >> v & 1))
             sum += foreseen(s, decided, truths, v);
     return sum;
+}
+
+static uint64_t bound(const struct search *s, uint64_t decided, uint64_t truths)
+{
+    return lost(s, decided, truths) + foreseen_in_all(s, decided, truths);
 }
 
 // ---- the walk
@@ -143,14 +148,14 @@ static void read_text(struct search *s)
 static void write_answer(const struct search *s)
 {
     printf("status=%s\n", s->stopped ? "stopped" : "done");
-    if (!s->kept) {
+    if (s->kept) {
+        printf("weight=%" PRIu64 "\nnodes=%" PRIu64 "\nreading=", s->best, s->nodes);
+        for (unsigned v = 0; v < s->variables; v++)
+            printf("%s%s%u", v ? " " : "", s->reading >> v & 1 ? "" : "-", v + 1);
+        puts("");
+    } else
         printf("weight=none\nnodes=%" PRIu64 "\nreading=none\n", s->nodes);
-        return;
-    }
-    printf("weight=%" PRIu64 "\nnodes=%" PRIu64 "\nreading=", s->best, s->nodes);
-    for (unsigned v = 0; v < s->variables; v++)
-        printf("%s%s%u", v ? " " : "", s->reading >> v & 1 ? "" : "-", v + 1);
-    puts("");
+    printf("conceded=0\nlost=%" PRIu64 "\nforeseen=%" PRIu64 "\n", lost(s, 0, 0), foreseen_in_all(s, 0, 0));
 }
 
 int main(void)
