@@ -132,7 +132,7 @@
 /* Bytes that are enough for write, for write_wcnf, and for answer, whatever they are given. */
 #define OLIKUMPASHO_MOST_WRITTEN ((size_t)136793)
 #define OLIKUMPASHO_MOST_WRITTEN_WCNF ((size_t)131663)
-#define OLIKUMPASHO_MOST_ANSWERED ((size_t)913)
+#define OLIKUMPASHO_MOST_ANSWERED ((size_t)883)
 
 /* ---- the words of a desk */
 

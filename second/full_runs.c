@@ -376,7 +376,7 @@ static void run_room(struct run *r)
     emit(r, "answer %zu 85", answered);
     meets(r, "a byte short of room");
     emit(r, "answer %zu 85", answered - 1);
-    emit(r, "answer 913 85");
+    emit(r, "answer 883 85");
     draft_long_answer(c, &d);
     lines_of(&l, &d, one_in(c, 2) ? 100000 : 4300);
     emit_text(r, &l);

@@ -10,7 +10,7 @@ use libc::STDOUT_FILENO;
 use rules::Written;
 
 // No answer is longer.
-const ROOM: usize = 913;
+const ROOM: usize = 883;
 
 // The answer, at the front of bytes that have room for every answer.
 fn reply(input: &[u8], output: &mut [u8]) -> usize
