@@ -1,6 +1,6 @@
 # What runs of calls have met: of each script and the answers to it beside it (SCRIPT.SUFFIX), a line `COUNT CALL OUTCOME` for each call and
-# outcome, `COUNT STEP ok` for each kind of step that was accepted, with its links, and `COUNT NAME: CALL OUTCOME` where a line `# meets NAME`
-# stood before the call.
+# outcome, `COUNT STEP ok` for each kind of step that was accepted, with its links, `COUNT bound, PART` for each part of a bound that is not 0,
+# and `COUNT NAME: CALL OUTCOME` where a line `# meets NAME` stood before the call.
 function met(what) { count[what]++ }
 function outcome(answer,   part) {
   split(answer, part, " ")
@@ -14,6 +14,13 @@ function step(named, words) {
   if (named == "2") return "shift"
   if (named == "3") return "chain, k = " (words - 4)
   return "fork, k = " (words - 6)
+}
+function parts(answer,   part) {
+  split(answer, part, " ")
+  if (part[1] > 0) met("bound, conceded")
+  if (part[2] > 0) met("bound, lost")
+  if (part[3] > 0) met("bound, foreseen")
+  if (part[1] > 0 && part[2] > 0 && part[3] > 0) met("bound, all three")
 }
 BEGIN {
   split("load wellformed decide rewrite back bound search weight read write readwcnf writewcnf answer", names, " ")
@@ -32,6 +39,7 @@ BEGIN {
       how = outcome(substr(answer, 1, 100))
       met(word[1] " " how)
       if (word[1] == "rewrite" && how == "ok") met(step(word[2], words) " ok")
+      if (word[1] == "bound" && how == "ok") parts(answer)
       if (tag != "") met(tag ": " word[1] " " how)
       tag = ""
     }
