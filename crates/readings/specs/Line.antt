@@ -1,4 +1,4 @@
--- The line of a reading: its key and what stands for none, as bytes, and the most bytes that it can have.
+-- The line of a reading: its key and what stands for none, as bytes, and the most bytes that it can have; outcomes whose reading such a line can hold.
 use Prim.Native.Nat.{ℕ, _+_, _≤_}
 use mathlib.Core.List.{List, [], _∷_}
 use lib.ListN.{length}
