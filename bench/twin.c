@@ -1,7 +1,7 @@
 // The same walk with the same bound, plainly written in C: what the program is timed against. It takes a well-formed text for
-// granted, refuses nothing and shares no code with the project. With -DCOMPARING it tells a unit by comparing what is left with
-// the variable's bit. With -DUNDECIDED it also writes, to standard error, how many variables were undecided at the nodes it
-// visited, summed.
+// granted, refuses nothing and shares no code with the project. With -DLEFT_FIRST it asks what is left of a row before whether the
+// row is satisfied, as the program does. With -DPASS_PER_VARIABLE it passes over the rows once for lost and once for each undecided
+// variable. With -DUNDECIDED it also writes, to standard error, how many variables were undecided at the nodes it visited, summed.
 #include <inttypes.h>
 #include <stddef.h>
 #include <stdint.h>
@@ -9,7 +9,7 @@
 #include <stdlib.h>
 #include <string.h>
 
-enum { MOST_ROWS = 512, MOST_INPUT = 65536 };
+enum { MOST_VARIABLES = 64, MOST_ROWS = 512, MOST_INPUT = 65536 };
 
 struct row {
     uint64_t positive, negative, weight;
@@ -28,14 +28,63 @@ struct search {
 
 // ---- the bound
 
+struct losses {
+    uint64_t lost, foreseen;
+};
+
+static int satisfied(const struct row *r, uint64_t decided, uint64_t truths)
+{
+    return (r->positive & truths) || (r->negative & decided & ~truths);
+}
+
+static uint64_t smaller(uint64_t positive, uint64_t negative)
+{
+    return positive < negative ? positive : negative;
+}
+
+#ifndef PASS_PER_VARIABLE
+// What is lost, and a sum for each literal: the weights of the rows of which it alone is left.
+static uint64_t gather(const struct search *s, uint64_t decided, uint64_t truths, uint64_t positive[], uint64_t negative[])
+{
+    uint64_t lost = 0;
+    for (size_t i = 0; i < s->n; i++) {
+#ifndef LEFT_FIRST
+        const struct row *r = &s->rows[i];
+        if (satisfied(r, decided, truths))
+            continue;
+        uint64_t remnant = (r->positive | r->negative) & ~decided;
+        if (remnant == 0)
+            lost += r->weight;
+        else if (__builtin_popcountll(remnant) == 1)
+            (r->positive & remnant ? positive : negative)[__builtin_ctzll(remnant)] += r->weight;
+#else
+        struct row r = s->rows[i];
+        uint64_t remnant = (r.positive | r.negative) & ~decided;
+        if (remnant == 0)
+            lost += satisfied(&r, decided, truths) ? 0 : r.weight;
+        else if (__builtin_popcountll(remnant) == 1)
+            (r.positive & remnant ? positive : negative)[__builtin_ctzll(remnant)] += satisfied(&r, decided, truths) ? 0 : r.weight;
+#endif
+    }
+    return lost;
+}
+
+static struct losses losses(const struct search *s, uint64_t decided, uint64_t truths)
+{
+    uint64_t positive[MOST_VARIABLES] = {0}, negative[MOST_VARIABLES] = {0};
+    struct losses l = {gather(s, decided, truths, positive, negative), 0};
+    for (unsigned v = 0; v < s->variables; v++)
+        if (!(decided >> v & 1))
+            l.foreseen += smaller(positive[v], negative[v]);
+    return l;
+}
+#else
 static uint64_t lost(const struct search *s, uint64_t decided, uint64_t truths)
 {
     uint64_t sum = 0;
     for (size_t i = 0; i < s->n; i++) {
         const struct row *r = &s->rows[i];
-        if ((r->positive & truths) || (r->negative & decided & ~truths))
-            continue;
-        if (((r->positive | r->negative) & ~decided) == 0)
+        if (!satisfied(r, decided, truths) && ((r->positive | r->negative) & ~decided) == 0)
             sum += r->weight;
     }
     return sum;
@@ -47,41 +96,28 @@ static uint64_t foreseen(const struct search *s, uint64_t decided, uint64_t trut
     uint64_t positive = 0, negative = 0;
     for (size_t i = 0; i < s->n; i++) {
         const struct row *r = &s->rows[i];
-#ifndef COMPARING
-        if (!((r->positive | r->negative) >> v & 1))
-            continue;
-#endif
-        if ((r->positive & truths) || (r->negative & decided & ~truths))
+        if (!((r->positive | r->negative) >> v & 1) || satisfied(r, decided, truths))
             continue;
         uint64_t remnant = (r->positive | r->negative) & ~decided;
-#ifdef COMPARING
-        if (remnant != (uint64_t)1 << v)
-            continue;
-#else
         if (__builtin_popcountll(remnant) != 1)
             continue;
-#endif
         if (r->positive & remnant)
             positive += r->weight;
         else
             negative += r->weight;
     }
-    return positive < negative ? positive : negative;
+    return smaller(positive, negative);
 }
 
-static uint64_t foreseen_in_all(const struct search *s, uint64_t decided, uint64_t truths)
+static struct losses losses(const struct search *s, uint64_t decided, uint64_t truths)
 {
-    uint64_t sum = 0;
+    struct losses l = {lost(s, decided, truths), 0};
     for (unsigned v = 0; v < s->variables; v++)
         if (!(decided >> v & 1))
-            sum += foreseen(s, decided, truths, v);
-    return sum;
+            l.foreseen += foreseen(s, decided, truths, v);
+    return l;
 }
-
-static uint64_t bound(const struct search *s, uint64_t decided, uint64_t truths)
-{
-    return lost(s, decided, truths) + foreseen_in_all(s, decided, truths);
-}
+#endif
 
 // ---- the walk
 
@@ -96,11 +132,12 @@ static void walk(struct search *s, uint64_t decided, uint64_t truths)
 #ifdef UNDECIDED
     s->undecided += s->variables - v;
 #endif
-    uint64_t b = bound(s, decided, truths);
-    if (b >= s->best)
+    struct losses l = losses(s, decided, truths);
+    uint64_t bound = l.lost + l.foreseen;
+    if (bound >= s->best)
         return;
     if (v >= s->variables) {
-        s->best = b;
+        s->best = bound;
         s->reading = truths;
         s->kept = 1;
         return;
@@ -155,7 +192,8 @@ static void write_answer(const struct search *s)
         puts("");
     } else
         printf("weight=none\nnodes=%" PRIu64 "\nreading=none\n", s->nodes);
-    printf("conceded=0\nlost=%" PRIu64 "\nforeseen=%" PRIu64 "\n", lost(s, 0, 0), foreseen_in_all(s, 0, 0));
+    struct losses root = losses(s, 0, 0);
+    printf("conceded=0\nlost=%" PRIu64 "\nforeseen=%" PRIu64 "\n", root.lost, root.foreseen);
 }
 
 int main(void)

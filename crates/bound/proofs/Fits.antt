@@ -11,7 +11,7 @@ use lib.Seq.{length-take-le}
 use Rattle.masks.specs.Masks.{has}
 use Rattle.masks.specs.Sums.{sum}
 use Rattle.masks.proofs.Choice.{cond-elim}
-use Rattle.masks.proofs.Sums.{sum-more, sum-mono, sum-le, sum-bound}
+use Rattle.masks.proofs.Sums.{sum-more, sum-mono, sum-le, sum-bound, le-sum}
 use Rattle.literals.specs.declared.Lits.{Lits}
 use Rattle.literals.specs.Lits.{isEmpty, sameLits}
 use Rattle.rules.specs.declared.Row.{Row}
@@ -51,6 +51,11 @@ module _ (d : List ℕ) (readable : Readable d) (p : Part) where
         sum-mono (i + 1) (inUse d)
             (λ k. weightWhere test p (rowOn d k)) (omega arith),
       )
+
+  -- the next row by itself
+  pub row-fits : (i : ℕ) → i < inUse d → rowOn d i .weight ≤ mostWeight
+  unfolding weightOn
+  row-fits i h = omega (arith, readable .weights, le-sum (inUse d) (λ k. rowOn d k .weight) i h)
 
   pub lost-fits : conceded d + lostBeyond d p ≤ mostWeight
   unfolding lostBeyond

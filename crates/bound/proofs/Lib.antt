@@ -1,3 +1,5 @@
+pub mod Places
 pub mod Ones
 pub mod Fits
+pub mod Gathering
 pub mod Tied

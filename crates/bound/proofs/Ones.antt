@@ -1,126 +1,122 @@
--- Ones counted in a remnant tell whether nothing is left, or one literal, and trailing zeros which.
--- Where the count is 1, one mask is empty and the other has one bit, so that it is the power of two of its lowest place.
-use Prim.Native.Nat.{ℕ, _+_, _^_, _<_}
-use mathlib.Core.Path.{_≡_, sym, ap, _∙_}
-use mathlib.Core.Bool.{Bool, true, false, cond, not, and-false}
-use mathlib.Core.Logic.{⊎-elim}
-use native.Mathlib.Nat.{eq-zero-or-pos}
+-- Ones counted in a remnant tell whether nothing is left of a row, or one literal, and so what the row adds to lost and to the sums of units.
+-- Of two masks that have one place together, and none in common, one is empty and the other has that place.
+use Prim.Native.Nat.{ℕ, _+_, _^_, _≤_, _<_}
+use mathlib.Core.Path.{_≡_, refl, sym, ap, _∙_}
+use mathlib.Core.Bool.{Bool, true, false, cond, not, _&&_}
+use mathlib.Core.List.{List}
 use native.Mathlib.Omega.{arith}
-use lib.Bits.{bitOr, or-zero-l, or-zero-r, or-lt}
-use lib.Count.{trailingZeros}
-use lib.Pow.{pow-pos}
-use Rattle.masks.specs.Masks.{count, single, has, without}
-use Rattle.masks.proofs.Choice.{not-so, clash, or-none}
-use Rattle.masks.proofs.Bits.{has-or, has-without, has-pow-same}
-use Rattle.masks.proofs.Counts.{count-zero, count-empty, count-pow, count-one, trailing-pow}
-use Rattle.masks.proofs.Sets.{or-empty, single-pow}
+use borrow.Author.Tests.{eqb-true, eq-eqb}
+use lib.Bits.{bitAnd, bitOr, or-zero-l, or-lt}
+use lib.Dec.{eqb}
+use Rattle.masks.specs.Masks.{count, without}
+use Rattle.masks.proofs.Choice.{not-so, clash, and-left, and-right, both, cond-same, cond-elim}
+use Rattle.masks.proofs.Counts.{count-zero, count-empty, count-or-and, count-mono}
+use Rattle.masks.proofs.Sets.{or-empty, and-lt-left, and-within, within-union, within-trans}
 use Rattle.literals.specs.declared.Lits.{Lits}
-use Rattle.literals.specs.Lits.{isEmpty, sameLits}
-use Rattle.literals.proofs.TwoMasks.{lits-ext, same-eq, eq-same, empty-masks, masks-empty}
+use Rattle.literals.specs.Lits.{isEmpty, isOne, sameLits}
+use Rattle.literals.proofs.TwoMasks.{Held, empty-masks, masks-empty}
 use Rattle.rules.specs.declared.Row.{Row}
 use Rattle.rules.specs.declared.Part.{Part}
 use Rattle.rules.specs.Desk.{satisfied, remnant}
 use Rattle.rules.specs.Bound.{weightWhere}
-use Rattle.bound.specs.declared.Units.{Units}
-use Rattle.bound.specs.Units.{positiveUnit, negativeUnit, unitsIn, unitsBy}
+use Rattle.bound.specs.Units.{unitAt, weightUnder, unitAdds, rowAdds, Roomy, Grown}
+use Rattle.bound.proofs.Places.{none-grown, grown-as, no-unit}
 
--- ---- a row, satisfied or not
+-- ---- a row under a partial reading
 
-module _ (test : Lits → Bool) (p : Part) (row : Row) where
-  pub where-satisfied : satisfied p (row .lits) ≡ true → weightWhere test p row ≡ 0
-  unfolding weightWhere
-  where-satisfied e = rw e
+by-tests : (satisfied passes : Bool) (w : ℕ) → cond (not satisfied && passes) w 0 ≡ cond passes (cond satisfied 0 w) 0
+by-tests true passes w = sym (cond-same passes 0)
+by-tests false passes w = refl
 
-  pub where-left : satisfied p (row .lits) ≡ false → weightWhere test p row ≡ cond (test (remnant p (row .lits))) (row .weight) 0
-  unfolding weightWhere
-  where-left e = rw e
+where-under : (test : Lits → Bool) (p : Part) (row : Row) → weightWhere test p row ≡ cond (test (remnant p (row .lits))) (weightUnder p row) 0
+unfolding weightWhere
+where-under test p row = by-tests (satisfied p (row .lits)) (test (remnant p (row .lits))) (row .weight)
 
-  no-weight : (l : Lits) → sameLits l (remnant p (row .lits)) ≡ false → weightWhere (sameLits l) p row ≡ 0
-  unfolding weightWhere
-  no-weight l e = rw (e, and-false (not (satisfied p (row .lits))))
+under-le : (p : Part) (row : Row) → weightUnder p row ≤ row .weight
+under-le p row = cond-elim (λ (w : ℕ). w ≤ row .weight) (satisfied p (row .lits)) 0 (row .weight) (λ t. omega arith) (λ t. omega arith)
 
-pub units-ext : (a b : Units) → a .positive ≡ b .positive → a .negative ≡ b .negative → a ≡ b
-units-ext a b p q = λ i. record { positive = p i; negative = q i }
+pub roomy-under : (p : Part) (row : Row) (w : ℕ) {sums : List ℕ} → w ≡ weightUnder p row → Roomy (row .weight) sums → Roomy w sums
+roomy-under p row w e roomy = record { words = roomy .words; fits = λ k h. omega (arith, roomy .fits k h, under-le p row) }
 
--- ---- a row that does not name the variable
+-- ---- what two masks hold
 
-module _ (p : Part) (row : Row) (v : ℕ) (below : v < 64) where
-  left-out : (a b : ℕ) → has a v ≡ false → single v ≡ without a b → ⊥
-  left-out a b e same =
-      clash (ap (λ (m : ℕ). has m v) (single-pow v below) ∙ has-pow-same v) (ap (λ (m : ℕ). has m v) same ∙ has-without a b v ∙ rw e)
+and-in-or : (a b : ℕ) → without (bitAnd a b) (bitOr a b) ≡ 0
+and-in-or a b = within-trans (bitAnd a b) a (bitOr a b) (and-within a b) (within-union a b)
 
-  pub not-named : has (bitOr (row .lits .positive) (row .lits .negative)) v ≡ false → record { positive = 0; negative = 0 } ≡ unitsBy p row v
-  unfolding remnant
-  not-named e =
-      let l = row .lits in
-      let none = or-none (has (l .positive) v) (has (l .negative) v) (sym (has-or (l .positive) (l .negative) v) ∙ e) in
-      units-ext _ _
-      (sym (no-weight (sameLits (positiveUnit v)) p row (positiveUnit v) (not-so (λ t.
-      left-out (l .positive) (p .decided) (none .0) (ap (λ (m : Lits). m .positive) (same-eq (positiveUnit v) (remnant p l) t))))))
-      (sym (no-weight (sameLits (negativeUnit v)) p row (negativeUnit v) (not-so (λ t.
-      left-out (l .negative) (p .decided) (none .1) (ap (λ (m : Lits). m .negative) (same-eq (negativeUnit v) (remnant p l) t))))))
-
--- ---- nothing is left
-
-module _ (a b : ℕ) (ha : a < 2 ^ 64) (hb : b < 2 ^ 64) where
+module _ (a b : ℕ) where
   abbrev these : Lits
   these = record { positive = a; negative = b }
 
-  pub no-ones : (w : ℕ) → count (bitOr a b) ≡ 0 → w ≡ cond (isEmpty these) w 0
-  no-ones w e = let m = or-empty a b (count-empty (or-lt 64 a b ha hb) e) in rw (masks-empty these (m .0) (m .1))
+  no-ones : a < 2 ^ 64 → b < 2 ^ 64 → count (bitOr a b) ≡ 0 → isEmpty these ≡ true
+  no-ones ha hb e = let m = or-empty a b (count-empty (or-lt 64 a b ha hb) e) in masks-empty these (m .0) (m .1)
 
-  pub some-ones : (w : ℕ) → (count (bitOr a b) ≡ 0 → ⊥) → 0 ≡ cond (isEmpty these) w 0
-  some-ones w h =
-      let e : isEmpty these ≡ false = not-so (λ t. h (let m = empty-masks these t in rw (m .0, m .1, or-zero-l 0) count-zero)) in
-      rw e
+  some-ones : (count (bitOr a b) ≡ 0 → ⊥) → isEmpty these ≡ false
+  some-ones h = not-so (λ t. h (let m = empty-masks these t in rw (m .0, m .1, or-zero-l 0) count-zero))
 
-  -- ---- one literal on the variable with bit v
+  one-left : count (bitOr a b) ≡ 1 → bitAnd a b ≡ 0 → isOne these ≡ true
+  unfolding isOne
+  one-left one apart = eq-eqb (count a + count b) 1 (omega (arith, count-or-and a b, ap count apart, count-zero))
 
-  module _ (v w : ℕ) (below : v < 64) where
-    not-positive : (positiveUnit v ≡ these → ⊥) → cond (sameLits (positiveUnit v) these) w 0 ≡ 0
-    not-positive h = let e : sameLits (positiveUnit v) these ≡ false = not-so (λ t. h (same-eq (positiveUnit v) these t)) in rw e
+  left-one : a < 2 ^ 64 → isOne these ≡ true → (count (bitOr a b) ≡ 1) × (bitAnd a b ≡ 0)
+  unfolding isOne
+  left-one ha t =
+      let one = eqb-true (count a + count b) 1 t in
+      let fewer = count-mono (bitAnd a b) (bitOr a b) (and-in-or a b) in
+      let none : count (bitAnd a b) ≡ 0 = omega (arith, count-or-and a b) in
+      (omega (arith, count-or-and a b), count-empty (and-lt-left 64 b ha) none)
 
-    not-negative : (negativeUnit v ≡ these → ⊥) → cond (sameLits (negativeUnit v) these) w 0 ≡ 0
-    not-negative h = let e : sameLits (negativeUnit v) these ≡ false = not-so (λ t. h (same-eq (negativeUnit v) these t)) in rw e
+-- ---- what a row adds, by what is left of it
 
-    one-bit : count (single v) ≡ 1
-    one-bit = rw (single-pow v below) (count-pow v below)
+-- what is left of a row, and how many ones are counted there
+pub record Left (p : Part) (row : Row) (rest : Lits) (ones : ℕ) : Type 0 where
+  pub is : rest ≡ remnant p (row .lits)
+  pub held : Held rest
+  pub counted : ones ≡ count (bitOr (rest .positive) (rest .negative))
 
-    -- not one literal
-    pub not-one : (count a + count b ≡ 1 → ⊥) → record { positive = 0; negative = 0 } ≡ unitsIn these v w
-    not-one h =
-        units-ext _ _
-        (sym (not-positive (λ e. h (omega (arith, one-bit, count-zero, ap (λ (l : Lits). count (l .positive)) e, ap (λ (l : Lits). count (l .negative)) e)))))
-        (sym (not-negative (λ e. h (omega (arith, one-bit, count-zero, ap (λ (l : Lits). count (l .positive)) e, ap (λ (l : Lits). count (l .negative)) e)))))
+module _ {p : Part} {row : Row} {rest : Lits} {ones : ℕ} (left : Left p row rest ones) where
+  -- the test of a unit: one place in the two masks together, and none in both
+  abbrev isUnit : Bool
+  isUnit = eqb ones 1 && eqb (bitAnd (rest .positive) (rest .negative)) 0
 
-    -- on another variable
-    pub other-variable : (trailingZeros 64 (bitOr a b) ≡ v → ⊥) → record { positive = 0; negative = 0 } ≡ unitsIn these v w
-    other-variable h =
-        let zeros : Lits → ℕ = λ l. trailingZeros 64 (bitOr (l .positive) (l .negative)) in
-        let bit : trailingZeros 64 (single v) ≡ v = rw (single-pow v below) (trailing-pow 64 v below) in
-        units-ext _ _
-        (sym (not-positive (λ e. h (sym (ap zeros e) ∙ ap (trailingZeros 64) (or-zero-r (single v)) ∙ bit))))
-        (sym (not-negative (λ e. h (sym (ap zeros e) ∙ ap (trailingZeros 64) (or-zero-l (single v)) ∙ bit))))
+  pub unit-one : isUnit ≡ true → isOne rest ≡ true
+  unit-one e =
+      one-left (rest .positive) (rest .negative)
+      (sym (left .counted) ∙ eqb-true ones 1 (and-left (eqb ones 1) _ e))
+      (eqb-true (bitAnd (rest .positive) (rest .negative)) 0 (and-right (eqb ones 1) _ e))
 
-    -- the negative one
-    pub is-negative : count a + count b ≡ 1 → trailingZeros 64 (bitOr a b) ≡ v → a ≡ 0 → record { positive = 0; negative = w } ≡ unitsIn these v w
-    is-negative one at z =
-        let none : count a ≡ 0 = ap count z ∙ count-zero in
-        let same : b ≡ single v =
-        count-one hb (omega arith) ∙ ap (λ (k : ℕ). 2 ^ k) (ap (trailingZeros 64) (sym (ap (λ (x : ℕ). bitOr x b) z ∙ or-zero-l b)) ∙ at)
-        ∙ sym (single-pow v below) in
-        let told : sameLits (negativeUnit v) these ≡ true = eq-same (negativeUnit v) these (lits-ext _ _ (sym z) (sym same)) in
-        units-ext _ _
-        (sym (not-positive (λ e. omega (arith, ap (λ (l : Lits). l .positive) e, single-pow v below, pow-pos v))))
-        (rw told)
+  not-unit : isUnit ≡ false → isOne rest ≡ false
+  not-unit e =
+      not-so (λ t.
+      let one = left-one (rest .positive) (rest .negative) (left .held .positives) t in
+      clash (both (eq-eqb ones 1 (left .counted ∙ one .0)) (eq-eqb (bitAnd (rest .positive) (rest .negative)) 0 (one .1))) e)
 
-    pub is-positive : count a + count b ≡ 1 → trailingZeros 64 (bitOr a b) ≡ v → (a ≡ 0 → ⊥) → record { positive = w; negative = 0 } ≡ unitsIn these v w
-    is-positive one at some =
-        let ones : count a ≡ 1 = ⊎-elim (λ (z : count a ≡ 0). absurd (some (count-empty ha z))) (λ q. omega arith) (eq-zero-or-pos (count a)) in
-        let none : b ≡ 0 = count-empty hb (omega arith) in
-        let same : a ≡ single v =
-        count-one ha ones ∙ ap (λ (k : ℕ). 2 ^ k) (ap (trailingZeros 64) (sym (ap (bitOr a) none ∙ or-zero-r a)) ∙ at) ∙ sym (single-pow v below) in
-        let told : sameLits (positiveUnit v) these ≡ true = eq-same (positiveUnit v) these (lits-ext _ _ (sym same) (sym none)) in
-        units-ext _ _
-        (rw told)
-        (sym (not-negative (λ e. some (sym (ap (λ (l : Lits). l .positive) e)))))
+  where-left : (test : Lits → Bool) → weightWhere test p row ≡ cond (test rest) (weightUnder p row) 0
+  where-left test = where-under test p row ∙ ap (λ (l : Lits). cond {A = ℕ} (test l) (weightUnder p row) 0) (sym (left .is))
+
+  none-lost : (ones ≡ 0 → ⊥) → 0 ≡ weightWhere isEmpty p row
+  none-lost some =
+      let e : isEmpty rest ≡ false = some-ones (rest .positive) (rest .negative) (λ z. some (left .counted ∙ z)) in
+      sym (where-left isEmpty ∙ rw e)
+
+  none-gathered : (sums : List ℕ) → isOne rest ≡ false → Grown (rowAdds p row) sums sums
+  none-gathered sums e =
+      none-grown (rowAdds p row) sums (λ k h. where-left (sameLits (unitAt k)) ∙ no-unit rest (weightUnder p row) e k h)
+
+  pub empty-adds : (sums : List ℕ) (w : ℕ) → w ≡ weightUnder p row → ones ≡ 0
+      → (w ≡ weightWhere isEmpty p row) × Grown (rowAdds p row) sums sums
+  empty-adds sums w weighs z =
+      let h = left .held in
+      let empty : isEmpty rest ≡ true = no-ones (rest .positive) (rest .negative) (h .positives) (h .negatives) (sym (left .counted) ∙ z) in
+      (weighs ∙ sym (where-left isEmpty ∙ rw empty), none-gathered sums (not-unit (rw z)))
+
+  pub unit-adds : (before after : List ℕ) (w : ℕ) → w ≡ weightUnder p row → isUnit ≡ true → Grown (unitAdds rest w) before after
+      → (0 ≡ weightWhere isEmpty p row) × Grown (rowAdds p row) before after
+  unit-adds before after w weighs e grown =
+      let one = eqb-true ones 1 (and-left (eqb ones 1) _ e) in (
+        none-lost (λ z. omega arith),
+        grown-as (unitAdds rest w) (rowAdds p row) before after
+            (λ k h. ap (λ (x : ℕ). unitAdds rest x k) weighs ∙ sym (where-left (sameLits (unitAt k)))) grown,
+      )
+
+  pub more-adds : (sums : List ℕ) → (ones ≡ 0 → ⊥) → isUnit ≡ false → (0 ≡ weightWhere isEmpty p row) × Grown (rowAdds p row) sums sums
+  more-adds sums some e = (none-lost some, none-gathered sums (not-unit e))

@@ -1,13 +1,14 @@
 // The bound under any partial reading, of a desk that the caller has judged: what a search asks at each node.
 ghost use mathlib.Core.Path.{_≡_};
-ghost use mathlib.Core.Bool.{cond};
 ghost use Prim.Native.Nat.{_<_};
-ghost use Rattle.masks.specs.Masks.{has};
-ghost use Rattle.rules.specs.Desk.{decisions};
-ghost use Rattle.rules.specs.Bound.{lostBeyond, foreseenAt, foreseen, bound, lossesAt};
-ghost use Rattle.bound.specs.Units.{Readable};
-use crate::rests::lost_by;
-use crate::rests::units_by;
+ghost use lib.ListN.{length};
+ghost use Rattle.literals.specs.Literal.{mostVariables};
+ghost use Rattle.rules.specs.Desk.{inUse, decisions};
+ghost use Rattle.rules.specs.Bound.{lostBeyond, foreseen, bound, lossesAt};
+ghost use Rattle.bound.specs.Units.{Readable, sumWords, Gathered, smallerAt};
+use crate::rests::NEGATIVE;
+use crate::rests::SUMS;
+use crate::rests::add_row;
 use rules::Desk;
 use rules::Losses;
 use rules::Part;
@@ -22,39 +23,35 @@ pub fn decisions(desk: &[u64]) -> Part
     Part { decided, truths }
 }
 
-// The weights of unsatisfied rows with an empty remnant.
-fn lost_beyond(desk: &[u64], p: Part) -> u64
+// One pass over the rows in use: the sums of units are gathered in the lent words, and the result is what is lost.
+fn gather(desk: &[u64], p: Part, sums: &mut [u64]) -> u64
     requires { ⌜ Readable (now desk) ⌝ }
+    requires { ⌜ Gathered (now desk) p 0 (now sums) ⌝ }
     ensures { λ r. ⌜ r ≡ lostBeyond (now (desk .entry)) p ⌝ }
+    ensures { λ _. ⌜ Gathered (now (desk .entry)) p (inUse (now (desk .entry))) (now (sums .exit)) ⌝ }
 {
     let n = rules::word(desk, Desk::IN_USE) as usize;
     let mut lost = 0;
     let mut i = 0;
     while i < n {
         let row = row_on(desk, i);
-        lost += lost_by(p, row);
+        lost += add_row(p, row, sums);
         i += 1;
     }
     lost
 }
 
-// The smaller of the two sums of the variable with bit v.
-fn foreseen_at(desk: &[u64], p: Part, v: u64) -> u64
-    requires { ⌜ Readable (now desk) ⌝ }
-    requires { ⌜ v < 64 ⌝ }
-    ensures { λ r. ⌜ r ≡ foreseenAt (now (desk .entry)) p v ⌝ }
+// What the variable with bit v adds: the smaller of its two sums, and nothing where it is decided.
+fn smaller_at(decided: u64, v: u64, sums: &[u64]) -> u64
+    requires { ⌜ (v < mostVariables) × (length (now sums) ≡ sumWords) ⌝ }
+    ensures { λ r. ⌜ r ≡ smallerAt decided v (now (sums .entry)) ⌝ }
 {
-    let n = rules::word(desk, Desk::IN_USE) as usize;
-    let mut positive = 0;
-    let mut negative = 0;
-    let mut i = 0;
-    while i < n {
-        let row = row_on(desk, i);
-        let units = units_by(p, row, v);
-        positive += units.positive;
-        negative += units.negative;
-        i += 1;
+    if (decided >> v) % 2 == 1 {
+        return 0;
     }
+    let at = v as usize;
+    let positive = sums[at];
+    let negative = sums[NEGATIVE + at];
     if positive < negative {
         positive
     } else {
@@ -62,29 +59,17 @@ fn foreseen_at(desk: &[u64], p: Part, v: u64) -> u64
     }
 }
 
-// What the variable with bit v adds: nothing, where it is decided.
-fn foreseen_by(desk: &[u64], p: Part, v: u64) -> u64
+// One pass over the variables, once the sums are gathered.
+fn foreseen(desk: &[u64], p: Part, sums: &[u64]) -> u64
     requires { ⌜ Readable (now desk) ⌝ }
-    requires { ⌜ v < 64 ⌝ }
-    ensures { λ r. ⌜ r ≡ cond (has (p .decided) v) 0 (foreseenAt (now (desk .entry)) p v) ⌝ }
-{
-    if masks::has(p.decided, v) {
-        0
-    } else {
-        foreseen_at(desk, p, v)
-    }
-}
-
-// Over the undecided variables.
-fn foreseen(desk: &[u64], p: Part) -> u64
-    requires { ⌜ Readable (now desk) ⌝ }
+    requires { ⌜ Gathered (now desk) p (inUse (now desk)) (now sums) ⌝ }
     ensures { λ r. ⌜ r ≡ foreseen (now (desk .entry)) p ⌝ }
 {
     let n = rules::word(desk, Desk::VARIABLES);
     let mut sum = 0;
     let mut v = 0;
     while v < n {
-        sum += foreseen_by(desk, p, v);
+        sum += smaller_at(p.decided, v, sums);
         v += 1;
     }
     sum
@@ -96,8 +81,9 @@ pub fn losses_at(desk: &[u64], p: Part) -> Losses
     ensures { λ r. ⌜ r ≡ lossesAt (now (desk .entry)) p ⌝ }
 {
     let conceded = rules::word(desk, Desk::CONCEDED);
-    let lost = lost_beyond(desk, p);
-    let foreseen = foreseen(desk, p);
+    let mut sums = [0u64; SUMS];
+    let lost = gather(desk, p, &mut sums);
+    let foreseen = foreseen(desk, p, &sums);
     Losses {
         conceded,
         lost,

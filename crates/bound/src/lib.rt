@@ -8,12 +8,6 @@ use rules::Refusal;
 pub mod inner;
 mod rests;
 
-// The weights of a variable's units, positive and negative.
-pub struct Units {
-    pub positive: u64,
-    pub negative: u64,
-}
-
 // Where the bound of a desk comes from, under its own decisions, or the refusal.
 pub fn bound(desk: &[u64]) -> Bounded
     ensures { λ r. ⌜ r ≡ bounded (now (desk .entry)) ⌝ }

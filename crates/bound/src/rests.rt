@@ -1,99 +1,68 @@
-// What a row adds to lost, and to the sums of a variable's units: its weight, where it is unsatisfied and what is left of it is
-// nothing, or that literal alone. Ones counted in the remnant tell a unit from an empty one.
+// What a row adds to lost and to the sums of units: its weight, where it is unsatisfied and what is left of it is nothing, or one
+// literal. Ones counted in the remnant tell a unit from an empty one, and trailing zeros give the unit's variable.
 ghost use mathlib.Core.Path.{_≡_};
-ghost use mathlib.Core.Bool.{cond};
-ghost use Prim.Native.Nat.{_+_, _<_};
-ghost use Rattle.masks.specs.Masks.{count};
-ghost use Rattle.literals.specs.Lits.{isEmpty};
+ghost use mathlib.Core.Bool.{true};
+ghost use Rattle.literals.specs.Lits.{isEmpty, isOne};
 ghost use Rattle.rules.specs.Bound.{weightWhere};
-ghost use Rattle.bound.specs.Units.{unitsIn, unitsBy};
-use crate::Units;
+ghost use Rattle.bound.specs.Units.{placeOf, weightUnder, unitAdds, rowAdds, Roomy, Grown};
+use literals::Literal;
+use literals::Lits;
 use rules::Part;
 use rules::Row;
 use values::remnant;
 use values::satisfied;
 
-// How many literals are left, of these two masks.
-fn ones(positive: u64, negative: u64) -> u64
-    ensures { λ r. ⌜ r ≡ count positive + count negative ⌝ }
+// Where the sums of negative literals begin, behind those of the positive ones.
+pub const NEGATIVE: usize = Literal::MOST as usize;
+
+// A sum for each literal.
+pub const SUMS: usize = 2 * NEGATIVE;
+
+// Where the sum of a literal stands.
+fn place(one: Lits) -> usize
+    ensures { λ r. ⌜ r ≡ placeOf one ⌝ }
 {
-    let a = masks::count(positive);
-    let b = masks::count(negative);
-    a + b
+    let v = masks::lowest(one.positive | one.negative) as usize;
+    if one.negative == 0 { v } else { NEGATIVE + v }
 }
 
-// The weight, where nothing is left.
-fn lost_in(positive: u64, negative: u64, w: u64) -> u64
-    ensures { λ r. ⌜ r ≡ cond (isEmpty (record { positive = positive; negative = negative })) w 0 ⌝ }
+// The weight that a row still has: none once it is satisfied.
+fn weight_under(p: Part, row: Row) -> u64
+    ensures { λ r. ⌜ r ≡ weightUnder p row ⌝ }
 {
-    if masks::count(positive | negative) == 0 {
-        w
-    } else {
+    if satisfied(p, row.lits) {
         0
-    }
-}
-
-// The weight, at its sign, where what is left is one literal on the variable with bit v. Then one mask is empty and the
-// other is the variable's bit.
-fn units_in(positive: u64, negative: u64, v: u64, w: u64) -> Units
-    requires { ⌜ v < 64 ⌝ }
-    ensures { λ r. ⌜ r ≡ unitsIn (record { positive = positive; negative = negative }) v w ⌝ }
-{
-    if ones(positive, negative) != 1 {
-        return Units {
-            positive: 0,
-            negative: 0,
-        };
-    }
-    if masks::lowest(positive | negative) != v {
-        return Units {
-            positive: 0,
-            negative: 0,
-        };
-    }
-    if positive == 0 {
-        Units {
-            positive: 0,
-            negative: w,
-        }
     } else {
-        Units {
-            positive: w,
-            negative: 0,
-        }
+        row.weight
     }
 }
 
-// What a row adds to lost.
-pub fn lost_by(p: Part, row: Row) -> u64
+// The sum of the one literal that is left grows by the weight.
+fn add_unit(rest: Lits, w: u64, sums: &mut [u64])
+    requires { ⌜ isOne rest ≡ true ⌝ }
+    requires { ⌜ Roomy w (now sums) ⌝ }
+    ensures { λ _. ⌜ Grown (unitAdds rest w) (now (sums .entry)) (now (sums .exit)) ⌝ }
+{
+    let k = place(rest);
+    let sum = sums[k] + w;
+    sums[k] = sum;
+}
+
+// What a row adds to the sums, and as the result what it adds to lost. How much is left of it changes with the depth of a walk alone, and
+// is asked first; whether it is satisfied changes from node to node. A variable that is left both ways is no unit.
+pub fn add_row(p: Part, row: Row, sums: &mut [u64]) -> u64
+    requires { ⌜ Roomy (row .weight) (now sums) ⌝ }
     ensures { λ r. ⌜ r ≡ weightWhere isEmpty p row ⌝ }
+    ensures { λ _. ⌜ Grown (rowAdds p row) (now (sums .entry)) (now (sums .exit)) ⌝ }
 {
-    let l = row.lits;
-    if satisfied(p, l) {
-        return 0;
+    let rest = remnant(p, row.lits);
+    let left = masks::count(rest.positive | rest.negative);
+    if left == 0 {
+        return weight_under(p, row);
     }
-    let rest = remnant(p, l);
-    lost_in(rest.positive, rest.negative, row.weight)
-}
-
-// What a row adds to the two sums of the variable with bit v. Most rows do not name it, and are passed over by that first test.
-pub fn units_by(p: Part, row: Row, v: u64) -> Units
-    requires { ⌜ v < 64 ⌝ }
-    ensures { λ r. ⌜ r ≡ unitsBy p row v ⌝ }
-{
-    let l = row.lits;
-    if !masks::has(l.positive | l.negative, v) {
-        return Units {
-            positive: 0,
-            negative: 0,
-        };
+    if (left == 1) & (rest.positive & rest.negative == 0) {
+        let w = weight_under(p, row);
+        add_unit(rest, w, sums);
     }
-    if satisfied(p, l) {
-        return Units {
-            positive: 0,
-            negative: 0,
-        };
-    }
-    let rest = remnant(p, l);
-    units_in(rest.positive, rest.negative, v, row.weight)
+    0
 }

@@ -8,14 +8,15 @@ use Rattle.masks.proofs.Sums.{sum-empty, sum-more}
 use Rattle.rules.specs.Desk.{variables}
 use Rattle.rules.specs.Bound.{foreseen}
 use Rattle.bound.proofs.Fits.{foreseenBy, foreseen-next}
+use Rattle.bound.proofs.Gathering.{gathered-by}
 use Rattle.bound.proofs.inner.foreseen.Statement.{statement}
 use Rattle.bound.proofs.inner.foreseen.Tie as tie
 
 abbrev Inv-loop : tie.InvT-loop
-Inv-loop desk p n sum₀ v₀ passed v = (v ≤ n) × (passed ≡ sum v (foreseenBy desk p))
+Inv-loop desk p sums n sum₀ v₀ passed v = (v ≤ n) × (passed ≡ sum v (foreseenBy desk p))
 
 abbrev μ-loop : tie.MeasureT-loop
-μ-loop desk p n sum₀ v₀ passed v = n - v
+μ-loop desk p sums n sum₀ v₀ passed v = n - v
 
 word-requires : tie.Need-word-requires Inv-loop μ-loop
 word-requires c κs = search needs
@@ -23,20 +24,29 @@ word-requires c κs = search needs
 loop-holds : tie.Need-loop-holds Inv-loop μ-loop
 loop-holds c = (omega arith, sym (sum-empty _))
 
-foreseen-by-requires : tie.Need-foreseen-by-requires Inv-loop μ-loop
-foreseen-by-requires c κs =
-    let s = c .before .before .before .before in
-    (s .pre, omega (arith, s .pre .bits, c .before .before .word .ensures))
+smaller-at-requires : tie.Need-smaller-at-requires Inv-loop μ-loop
+smaller-at-requires c κs =
+    let s = c .before .before .before .before .before in
+    (omega (arith, s .pre .0 .bits, c .before .before .word .ensures), s .pre .1 .words)
+
+-- what the turn adds
+added : (c : tie.After-smaller-at Inv-loop μ-loop)
+    → let a = c .before .before .before .before .before .before .args in
+    c .smaller-at .result ≡ foreseenBy (a .desk .now) (a .p) (c .before .before .loop .v)
+added c =
+    let s = c .before .before .before .before .before .before in
+    c .smaller-at .ensures
+    ∙ gathered-by (s .args .desk .now) (s .args .p) (s .args .sums .now) (s .pre .1) (c .before .before .loop .v)
+    (omega (arith, s .pre .0 .bits, c .before .before .before .word .ensures))
 
 add-sum : tie.Need-add-sum Inv-loop μ-loop
 add-sum c =
-    let s = c .before .before .before .before .before in
-    let l = c .before .before .loop in
+    let s = c .before .before .before .before .before .before in
     omega (
       arith,
-      c .foreseen-by .ensures,
-      foreseen-next (s .args .desk .now) (s .pre) (s .args .p) (l .v)
-          (omega (arith, s .pre .bits, c .before .before .before .word .ensures)),
+      added c,
+      foreseen-next (s .args .desk .now) (s .pre .0) (s .args .p) (c .before .before .loop .v)
+          (omega (arith, s .pre .0 .bits, c .before .before .before .word .ensures)),
     )
 
 add-v : tie.Need-add-v Inv-loop μ-loop
@@ -47,14 +57,13 @@ loop-less c = omega arith
 
 loop-again : tie.Need-loop-again Inv-loop μ-loop
 loop-again c =
-    let a = c .before .before .before .before .before .args in
-    let l = c .before .before .loop in
-    (omega arith, omega (arith, c .foreseen-by .ensures, sum-more (l .v) (foreseenBy (a .desk .now) (a .p))))
+    let a = c .before .before .before .before .before .before .args in
+    (omega arith, omega (arith, added c, sum-more (c .before .before .loop .v) (foreseenBy (a .desk .now) (a .p))))
 
 returns : tie.Need-returns Inv-loop μ-loop
 unfolding foreseen
 returns c =
-    let a = c .before .before .before .before .args in
+    let a = c .before .before .before .before .before .args in
     let l = c .before .loop in
     let e : l .v ≡ variables (a .desk .now) = omega (arith, c .before .before .word .ensures) in
     l .inv .1 ∙ ap (λ (k : ℕ). sum k (foreseenBy (a .desk .now) (a .p))) e
@@ -67,7 +76,7 @@ foreseen-spec =
     μ-loop
     word-requires
     loop-holds
-    foreseen-by-requires
+    smaller-at-requires
     add-sum
     add-v
     loop-less
