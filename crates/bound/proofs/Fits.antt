@@ -21,7 +21,8 @@ use Rattle.rules.specs.Desk.{variables, inUse, conceded, rowOn, rowPlace, deskW
 use Rattle.rules.specs.Bound.{weightWhere, lostBeyond, unitWeight, foreseenAt, foreseen}
 use Rattle.desk_laws.proofs.Formed.{formed}
 use Rattle.desk_laws.proofs.Alike.{front-alike, weight-alike}
-use Rattle.bound.specs.Units.{Readable, positiveUnit, negativeUnit}
+use Rattle.units.specs.Adds.{positiveUnit, negativeUnit}
+use Rattle.bound.specs.Units.{Readable}
 
 pub where-le : (test : Lits → Bool) (p : Part) (row : Row) → weightWhere test p row ≤ row .weight
 unfolding weightWhere

@@ -15,8 +15,9 @@ use Rattle.rules.specs.declared.Row.{Row}
 use Rattle.rules.specs.declared.Part.{Part}
 use Rattle.rules.specs.Desk.{inUse, rowOn}
 use Rattle.rules.specs.Bound.{unitWeight, foreseenAt}
-use Rattle.bound.specs.Units.{Readable, sumWords, unitAt, rowAdds, Roomy, Grown, Gathered, smallerAt}
-use Rattle.bound.proofs.Places.{positive-at, negative-at}
+use Rattle.units.specs.Adds.{sumWords, unitAt, rowAdds, Roomy, Grown}
+use Rattle.units.proofs.Places.{positive-at, negative-at}
+use Rattle.bound.specs.Units.{Readable, Gathered, smallerAt}
 use Rattle.bound.proofs.Fits.{row-fits, rows-fit, foreseenBy}
 
 module _ (d : List ℕ) (p : Part) where

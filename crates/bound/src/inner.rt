@@ -5,13 +5,14 @@ ghost use lib.ListN.{length};
 ghost use Rattle.literals.specs.Literal.{mostVariables};
 ghost use Rattle.rules.specs.Desk.{inUse, decisions};
 ghost use Rattle.rules.specs.Bound.{lostBeyond, foreseen, bound, lossesAt};
-ghost use Rattle.bound.specs.Units.{Readable, sumWords, Gathered, smallerAt};
-use crate::rests::NEGATIVE;
-use crate::rests::SUMS;
-use crate::rests::add_row;
+ghost use Rattle.units.specs.Adds.{sumWords};
+ghost use Rattle.bound.specs.Units.{Readable, Gathered, smallerAt};
 use rules::Desk;
 use rules::Losses;
 use rules::Part;
+use units::inner::NEGATIVE;
+use units::inner::SUMS;
+use units::inner::add_row;
 use words::inner::row_on;
 
 // The decisions of a desk as a partial reading.
@@ -35,7 +36,7 @@ fn gather(desk: &[u64], p: Part, sums: &mut [u64]) -> u64
     let mut i = 0;
     while i < n {
         let row = row_on(desk, i);
-        lost += add_row(p, row, sums);
+        lost = add_row(p, row, lost, sums);
         i += 1;
     }
     lost

@@ -6,7 +6,6 @@ use rules::Bounded;
 use rules::Refusal;
 
 pub mod inner;
-mod rests;
 
 // Where the bound of a desk comes from, under its own decisions, or the refusal.
 pub fn bound(desk: &[u64]) -> Bounded

@@ -1,15 +1,16 @@
 -- `gather` meets its contract: after i turns each of the sums, and what is lost, is that of the first i rows.
-use Prim.Native.Nat.{ℕ, _≤_, _-_}
+use Prim.Native.Nat.{ℕ, _+_, _≤_, _<_, _-_}
 use mathlib.Core.Path.{_≡_, sym, ap, subst, _∙_}
 use native.Mathlib.Omega.{arith}
 use borrow.Author.Needs.{needs}
 use Rattle.masks.specs.Sums.{sum}
 use Rattle.masks.proofs.Sums.{sum-empty, sum-more}
 use Rattle.literals.specs.Lits.{isEmpty}
+use Rattle.rules.specs.declared.Row.{Row}
 use Rattle.rules.specs.Desk.{inUse, rowOn}
 use Rattle.rules.specs.Bound.{weightWhere, lostBeyond}
 use Rattle.bound.specs.Units.{Gathered}
-use Rattle.bound.proofs.Fits.{rows-fit}
+use Rattle.bound.proofs.Fits.{rows-fit, row-fits}
 use Rattle.bound.proofs.Gathering.{gathered-more, gathered-roomy}
 use Rattle.bound.proofs.inner.gather.Statement.{statement}
 use Rattle.bound.proofs.inner.gather.Tie as tie
@@ -35,27 +36,28 @@ add-row-requires : tie.Need-add-row-requires Inv-loop μ-loop
 add-row-requires c κs =
     let t = c .before .before .before in
     let s = t .before .before .before .before in
-    gathered-roomy (s .args .desk .now) (s .args .p) (t .loop .i) (t .loop .sums) (t .loop .inv .2) _ (c .before .row-on .ensures)
-    (s .pre .0) (omega (arith, t .before .word .ensures))
+    let d = s .args .desk .now in
+    let more : t .loop .i < inUse d = omega (arith, t .before .word .ensures) in
+    let row = c .before .row-on .ensures in
+    let weighs : c .before .row-on .result .weight ≡ rowOn d (t .loop .i) .weight = ap (λ (r : Row). r .weight) row in (
+      omega (
+        arith,
+        t .loop .inv .1,
+        rows-fit d (s .pre .0) (s .args .p) isEmpty (t .loop .i) more,
+        row-fits d (s .pre .0) (s .args .p) (t .loop .i) more,
+      ),
+      gathered-roomy d (s .args .p) (t .loop .i) (t .loop .sums) (t .loop .inv .2) _ row (s .pre .0) more,
+    )
 
--- what the turn adds to lost
-added : (c : tie.After-add-row Inv-loop μ-loop)
+-- what is lost after the turn
+lost-more : (c : tie.After-add-row Inv-loop μ-loop)
     → let t = c .before .before .before .before in
     let a = t .before .before .before .before .args in
-    c .add-row .result ≡ weightWhere isEmpty (a .p) (rowOn (a .desk .now) (t .loop .i))
-added c =
-    let a = c .before .before .before .before .before .before .before .before .args in
-    c .add-row .ensures .0 ∙ ap (weightWhere isEmpty (a .p)) (c .before .before .row-on .ensures)
-
-add-lost : tie.Need-add-lost Inv-loop μ-loop
-add-lost c =
-    let t = c .before .before .before .before .before .before in
-    let s = t .before .before .before .before in
-    omega (
-      arith,
-      added (c .before .before),
-      rows-fit (s .args .desk .now) (s .pre .0) (s .args .p) isEmpty (t .loop .i) (omega (arith, t .before .word .ensures)),
-    )
+    c .add-row .result ≡ t .loop .lost + weightWhere isEmpty (a .p) (rowOn (a .desk .now) (t .loop .i))
+lost-more c =
+    let t = c .before .before .before .before in
+    let a = t .before .before .before .before .args in
+    c .add-row .ensures .0 ∙ ap (λ (r : Row). t .loop .lost + weightWhere isEmpty (a .p) r) (c .before .before .row-on .ensures)
 
 add-i : tie.Need-add-i Inv-loop μ-loop
 add-i c = omega arith
@@ -70,7 +72,7 @@ loop-again c =
     let a = t .before .before .before .before .args in
     let d = a .desk .now in (
       omega arith,
-      omega (arith, added call, sum-more (t .loop .i) (λ k. weightWhere isEmpty (a .p) (rowOn d k))),
+      omega (arith, lost-more call, sum-more (t .loop .i) (λ k. weightWhere isEmpty (a .p) (rowOn d k))),
       gathered-more d (a .p) (t .loop .i) (t .loop .sums) (t .loop .inv .2) _ (call .before .before .row-on .ensures) _ (call .add-row .ensures .1),
     )
 
@@ -96,7 +98,6 @@ gather-spec =
     loop-holds
     row-on-requires
     add-row-requires
-    add-lost
     add-i
     loop-less
     loop-again

@@ -8,14 +8,14 @@ use mathlib.Core.Logic.{⊎-elim}
 use native.Mathlib.Nat.{add-zero}
 use native.Mathlib.Omega.{arith}
 use borrow.Author.Tests.{eqb-true, eq-eqb, ne-eqb, lt-ltb, le-ltb}
-use lib.Bits.{or-zero-l, or-zero-r}
+use lib.Bits.{bitOr, or-zero-l, or-zero-r, or-lt}
 use lib.Count.{trailingZeros}
 use lib.Dec.{eqb}
 use lib.ListN.{length, getD, set, length-set}
 use lib.Pow.{pow-pos}
 use Rattle.masks.specs.Masks.{count, single}
-use Rattle.masks.proofs.Choice.{cases, lt-or-le, not-so, clash, same-test}
-use Rattle.masks.proofs.Counts.{count-zero, count-pow, trailing-pow}
+use Rattle.masks.proofs.Choice.{cases, lt-or-le, not-so, clash, same-test, cond-elim}
+use Rattle.masks.proofs.Counts.{count-zero, count-pow, trailing-pow, trailing-lt}
 use Rattle.masks.proofs.Sets.{single-pow}
 use Rattle.masks.proofs.Words.{getD-set}
 use Rattle.literals.specs.declared.Lits.{Lits}
@@ -23,7 +23,7 @@ use Rattle.literals.specs.Literal.{mostVariables}
 use Rattle.literals.specs.Lits.{isOne, sameLits}
 use Rattle.literals.proofs.TwoMasks.{Held, lits-ext, same-eq, eq-same}
 use Rattle.desk_laws.proofs.Readings.{Alone, one-alone}
-use Rattle.bound.specs.Units.{positiveUnit, negativeUnit, sumWords, unitAt, placeOf, unitAdds, Grown}
+use Rattle.units.specs.Adds.{positiveUnit, negativeUnit, sumWords, unitAt, placeOf, placeAdds, Grown}
 
 -- ---- places and literals
 
@@ -75,14 +75,11 @@ unit-place = by-sign (λ k l. placeOf l ≡ k) place-positive place-negative
 
 -- ---- a literal alone
 
-module _ (l : Lits) (one : Alone l) where
-  pub place-within : placeOf l < sumWords
-  place-within = within one
-    where
-      within : Alone l → placeOf l < sumWords
-      within (Alone.up v h e) = rw (e, place-positive v h) (omega arith)
-      within (Alone.down v h e) = rw (e, place-negative v h) (omega arith)
+-- what a weight adds at each place, where this is left of its row
+abbrev pub unitAdds : Lits → ℕ → ℕ → ℕ
+unitAdds rest w k = cond (sameLits (unitAt k) rest) w 0
 
+module _ (l : Lits) (one : Alone l) where
   unit-there : unitAt (placeOf l) ≡ l
   unit-there = there one
     where
@@ -98,26 +95,40 @@ module _ (l : Lits) (one : Alone l) where
       (λ t. eq-same (unitAt k) l (ap unitAt (eqb-true k (placeOf l) t) ∙ unit-there))
 
   -- a weight added at its place is added to its sum, and to no other
-  pub added-there : (w : ℕ) (sums : List ℕ) → length sums ≡ sumWords
-      → Grown (unitAdds l w) sums (set sums (placeOf l) (getD sums (placeOf l) 0 + w))
-  added-there w sums e =
-      record {
-        words = simp length-set;
-        each = λ k h. rw (getD-set sums (placeOf l) k (getD sums (placeOf l) 0 + w) 0 (omega (arith, place-within)), same-place k h) (at k (placeOf l));
-      }
-    where
-      at : (k j : ℕ) → cond (eqb k j) (getD sums j 0 + w) (getD sums k 0) ≡ getD sums k 0 + cond (eqb k j) w 0
-      at k j =
-          ⊎-elim
-          (λ t. rw t (ap (λ (i : ℕ). getD sums i 0 + w) (sym (eqb-true k j t))))
-          (λ t. rw t (sym (add-zero (getD sums k 0))))
-          (cases (eqb k j))
+  pub unit-adds : (w k : ℕ) → k < sumWords → placeAdds (placeOf l) w k ≡ unitAdds l w k
+  unit-adds w k h = rw (same-place k h)
+
+-- ---- a weight added at a place
+
+pub place-within : (l : Lits) → Held l → 0 < bitOr (l .positive) (l .negative) → placeOf l < sumWords
+unfolding placeOf
+place-within l held some =
+    let v = trailingZeros 64 (bitOr (l .positive) (l .negative)) in
+    let below : v < 64 = trailing-lt 64 (or-lt 64 (l .positive) (l .negative) (held .positives) (held .negatives)) some in
+    cond-elim (λ (k : ℕ). k < sumWords) (eqb (l .negative) 0) v (mostVariables + v) (λ t. omega arith) (λ t. omega arith)
+
+pub added-at : (at w : ℕ) (sums : List ℕ) → length sums ≡ sumWords → at < sumWords → Grown (placeAdds at w) sums (set sums at (getD sums at 0 + w))
+added-at at w sums e within =
+    record {
+      words = simp length-set;
+      each = λ k h. rw (getD-set sums at k (getD sums at 0 + w) 0 (omega arith)) (there k);
+    }
+  where
+    there : (k : ℕ) → cond (eqb k at) (getD sums at 0 + w) (getD sums k 0) ≡ getD sums k 0 + cond (eqb k at) w 0
+    there k =
+        ⊎-elim
+        (λ t. rw t (ap (λ (i : ℕ). getD sums i 0 + w) (sym (eqb-true k at t))))
+        (λ t. rw t (sym (add-zero (getD sums k 0))))
+        (cases (eqb k at))
 
 -- ---- no unit, nothing added
 
+pub same-one : (k : ℕ) → k < sumWords → (l : Lits) → sameLits (unitAt k) l ≡ true → isOne l ≡ true
+same-one k h l t = ap isOne (sym (same-eq (unitAt k) l t)) ∙ unit-one k h
+
 pub no-unit : (l : Lits) (w : ℕ) → isOne l ≡ false → (k : ℕ) → k < sumWords → unitAdds l w k ≡ 0
 no-unit l w e k h =
-    let other : sameLits (unitAt k) l ≡ false = not-so (λ t. clash (unit-one k h) (ap isOne (same-eq (unitAt k) l t) ∙ e)) in
+    let other : sameLits (unitAt k) l ≡ false = not-so (λ t. clash (same-one k h l t) e) in
     rw other
 
 pub none-grown : (adds : ℕ → ℕ) (sums : List ℕ) → ((k : ℕ) → k < sumWords → adds k ≡ 0) → Grown adds sums sums

@@ -4,9 +4,9 @@ use borrow.Author.Needs.{needs}
 use borrow.Author.Tests.{eq-eqb, ne-eqb}
 use lib.Bits.{bitOr}
 use lib.Count.{trailing-le}
-use Rattle.bound.specs.Units.{placeOf}
-use Rattle.bound.proofs.rests.place.Statement.{statement}
-use Rattle.bound.proofs.rests.place.Tie as tie
+use Rattle.units.specs.Adds.{placeOf}
+use Rattle.units.proofs.inner.place.Statement.{statement}
+use Rattle.units.proofs.inner.place.Tie as tie
 
 lowest-requires : tie.Need-lowest-requires
 lowest-requires c κs = search needs
