@@ -2,7 +2,7 @@
 -- place is added to that literal's sum and to no other.
 use Prim.Native.Nat.{ℕ, _+_, _-_, _^_, _≤_, _<_}
 use mathlib.Core.Path.{_≡_, refl, sym, ap, subst, _∙_}
-use mathlib.Core.Bool.{Bool, true, false, cond}
+use mathlib.Core.Bool.{true, false, cond}
 use mathlib.Core.List.{List}
 use mathlib.Core.Logic.{⊎-elim}
 use native.Mathlib.Nat.{add-zero}
@@ -21,8 +21,8 @@ use Rattle.masks.proofs.Words.{getD-set}
 use Rattle.literals.specs.declared.Lits.{Lits}
 use Rattle.literals.specs.Literal.{mostVariables}
 use Rattle.literals.specs.Lits.{isOne, sameLits}
-use Rattle.literals.proofs.TwoMasks.{Held, lits-ext, same-eq, eq-same}
-use Rattle.desk_laws.proofs.Readings.{Alone, one-alone}
+use Rattle.literals.proofs.TwoMasks.{Held, same-eq, eq-same}
+use Rattle.desk_laws.proofs.Readings.{Alone}
 use Rattle.units.specs.Adds.{positiveUnit, negativeUnit, sumWords, unitAt, placeOf, placeAdds, Grown}
 
 -- ---- places and literals
