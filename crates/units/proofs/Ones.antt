@@ -118,13 +118,12 @@ module _ {p : Part} {row : Row} {rest : Lits} {ones : ℕ} (left : Left p row re
       let any = or-lt 64 (rest .positive) (rest .negative) (held .positives) (held .negatives) in
       omega (arith, left .counted, count-pos any (pos-of-ne-zero some))
 
+  pub place-there : ones ≡ 1 → placeOf rest < sumWords
+  place-there one = place-within rest (left .held) (pos-of-ne-zero (λ z. omega (arith, left .counted, ap count z, count-zero)))
+
   module _ (w : ℕ) (weighs : w ≡ weightUnder p row twice) where
     pub roomy-under : {sums : List ℕ} → Roomy (row .weight) sums → Roomy w sums
     roomy-under roomy = record { words = roomy .words; fits = λ k h. omega (arith, roomy .fits k h, under-le p row twice) }
-
-    pub place-there : ones ≡ 1 → placeOf rest < sumWords
-    place-there one =
-        place-within rest (left .held) (pos-of-ne-zero (λ z. omega (arith, left .counted, ap count z, count-zero)))
 
     -- one place is left: a literal, or a variable both ways, which weighs nothing
     there : ones ≡ 1 → (k : ℕ) → k < sumWords → placeAdds (placeOf rest) w k ≡ rowAdds p row k

@@ -49,7 +49,7 @@ add-unit-requires c κs =
     let unit = c .before .before .before in
     let l = left (unit .before .before) in
     let w = c .before .weight-under2 .ensures in
-    (place-there l _ w (one unit), roomy-under l _ w (unit .before .before .before .before .before .before .pre .1))
+    (place-there l (one unit), roomy-under l _ w (unit .before .before .before .before .before .before .pre .1))
 
 same-length : tie.Need-same-length
 same-length c = search needs
