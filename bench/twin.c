@@ -1,7 +1,8 @@
 // The same walk with the same bound, plainly written in C: what the program is timed against. It takes a well-formed text for
 // granted, refuses nothing and shares no code with the project. With -DLEFT_FIRST it asks what is left of a row before whether the
 // row is satisfied, as the program does. With -DPASS_PER_VARIABLE it passes over the rows once for lost and once for each undecided
-// variable. With -DUNDECIDED it also writes, to standard error, how many variables were undecided at the nodes it visited, summed.
+// variable. With -DGROUPS the bound is that by groups. With -DUNDECIDED it also writes, to standard error, how many variables were
+// undecided at the nodes it visited, summed.
 #include <inttypes.h>
 #include <stddef.h>
 #include <stdint.h>
@@ -42,7 +43,9 @@ static uint64_t smaller(uint64_t positive, uint64_t negative)
     return positive < negative ? positive : negative;
 }
 
-#ifndef PASS_PER_VARIABLE
+#ifdef GROUPS
+#include "groups.c"
+#elif !defined PASS_PER_VARIABLE
 // What is lost, and a sum for each literal: the weights of the rows of which it alone is left.
 static uint64_t gather(const struct search *s, uint64_t decided, uint64_t truths, uint64_t positive[], uint64_t negative[])
 {
@@ -119,6 +122,14 @@ static struct losses losses(const struct search *s, uint64_t decided, uint64_t t
 }
 #endif
 
+#ifndef GROUPS
+static struct losses losses_to(const struct search *s, uint64_t decided, uint64_t truths, uint64_t enough)
+{
+    (void)enough;
+    return losses(s, decided, truths);
+}
+#endif
+
 // ---- the walk
 
 static void walk(struct search *s, uint64_t decided, uint64_t truths)
@@ -132,7 +143,7 @@ static void walk(struct search *s, uint64_t decided, uint64_t truths)
 #ifdef UNDECIDED
     s->undecided += s->variables - v;
 #endif
-    struct losses l = losses(s, decided, truths);
+    struct losses l = losses_to(s, decided, truths, s->best);
     uint64_t bound = l.lost + l.foreseen;
     if (bound >= s->best)
         return;
@@ -203,6 +214,9 @@ int main(void)
     s.best = 1;
     for (size_t i = 0; i < s.n; i++)
         s.best += s.rows[i].weight;
+#ifdef MASKED
+    mark_literals(&s);
+#endif
     walk(&s, 0, 0);
     write_answer(&s);
 #ifdef UNDECIDED

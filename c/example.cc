@@ -20,16 +20,16 @@ public:
         accepted(olikumpasho_load(variables, table.data(), table.size(), capacity, words.data(), words.size()));
     }
     void decide(int64_t literal) { accepted(olikumpasho_decide(words.data(), words.size(), literal)); }
-    std::vector<uint64_t> bound() const
+    std::vector<uint64_t> bound(uint64_t choice = OLIKUMPASHO_UNITS) const
     {
         std::vector<uint64_t> losses(OLIKUMPASHO_LOSSES_WORDS);
-        accepted(olikumpasho_bound(words.data(), words.size(), losses.data()));
+        accepted(olikumpasho_bound(words.data(), words.size(), choice, losses.data()));
         return losses;
     }
-    std::vector<uint64_t> search(uint32_t budget) const
+    std::vector<uint64_t> search(uint32_t budget, uint64_t choice = OLIKUMPASHO_UNITS) const
     {
         std::vector<uint64_t> found(OLIKUMPASHO_FOUND_WORDS);
-        accepted(olikumpasho_search(words.data(), words.size(), budget, found.data()));
+        accepted(olikumpasho_search(words.data(), words.size(), choice, budget, found.data()));
         return found;
     }
 };

@@ -10,8 +10,8 @@ mod c {
         pub fn olikumpasho_decide(desk: *mut u64, desk_words: usize, literal: i64) -> u64;
         pub fn olikumpasho_rewrite(desk: *mut u64, desk_words: usize, kind: u64, named: *const u64, count: usize) -> u64;
         pub fn olikumpasho_take_back(desk: *mut u64, desk_words: usize) -> u64;
-        pub fn olikumpasho_bound(desk: *const u64, desk_words: usize, losses: *mut u64) -> u64;
-        pub fn olikumpasho_search(desk: *const u64, desk_words: usize, budget: u32, found: *mut u64) -> u64;
+        pub fn olikumpasho_bound(desk: *const u64, desk_words: usize, choice: u64, losses: *mut u64) -> u64;
+        pub fn olikumpasho_search(desk: *const u64, desk_words: usize, choice: u64, budget: u32, found: *mut u64) -> u64;
         pub fn olikumpasho_read(text: *const u8, count: usize, table: *mut u64, words: usize, head: *mut u64) -> u64;
         pub fn olikumpasho_write(
             variables: u64, budget: u32, table: *const u64, words: usize, output: *mut u8, room: usize, size: *mut usize,
@@ -29,6 +29,14 @@ struct Refused(u64, u64);
 
 fn told(answer: u64) -> Result<(), Refused> {
     if answer == 0 { Ok(()) } else { Err(Refused(answer & 255, answer >> 8)) }
+}
+
+/// Which bound.
+#[allow(dead_code)]
+#[derive(Clone, Copy)]
+enum Bound {
+    Units = 0,
+    Groups = 1,
 }
 
 struct Found {
@@ -54,28 +62,28 @@ impl Desk {
     }
 
     // Conceded, lost beyond that, foreseen.
-    fn bound(&self) -> Result<[u64; 3], Refused> {
+    fn bound(&self, by: Bound) -> Result<[u64; 3], Refused> {
         let mut losses = [0; 3];
-        told(unsafe { c::olikumpasho_bound(self.0.as_ptr(), self.0.len(), losses.as_mut_ptr()) })?;
+        told(unsafe { c::olikumpasho_bound(self.0.as_ptr(), self.0.len(), by as u64, losses.as_mut_ptr()) })?;
         Ok(losses)
     }
 
-    fn search(&self, budget: u32) -> Result<Found, Refused> {
+    fn search(&self, by: Bound, budget: u32) -> Result<Found, Refused> {
         let mut found = [0; 5];
-        told(unsafe { c::olikumpasho_search(self.0.as_ptr(), self.0.len(), budget, found.as_mut_ptr()) })?;
+        told(unsafe { c::olikumpasho_search(self.0.as_ptr(), self.0.len(), by as u64, budget, found.as_mut_ptr()) })?;
         let best = if found[1] == 1 { Some((found[2], found[3])) } else { None };
         Ok(Found { done: found[0] == 0, best, nodes: found[4] })
     }
 }
 
 fn hour() -> Result<(), Refused> {
-    assert!(Desk::load(0, &[], 0)?.bound()? == [0; 3]); // no variables and no rows
+    assert!(Desk::load(0, &[], 0)?.bound(Bound::Units)? == [0; 3]); // no variables and no rows
     let mut desk = Desk::load(3, &[1, 0, 5, 0, 2, 5, 2, 4, 4, 4, 0, 2], 8)?;
-    let found = desk.search(100)?;
+    let found = desk.search(Bound::Units, 100)?;
     desk.decide(3)?;
     let (weight, reading) = found.best.expect("100 nodes are enough");
     println!("{}: weight {}, reading {}, {} nodes", if found.done { "done" } else { "stopped" }, weight, reading, found.nodes);
-    let [_, lost, foreseen] = desk.bound()?;
+    let [_, lost, foreseen] = desk.bound(Bound::Units)?;
     println!("with 3 true, {lost} lost and {foreseen} foreseen");
     Ok(())
 }

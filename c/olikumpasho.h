@@ -50,6 +50,11 @@
    k is 0 to 8. A remnant holds just the literals shown. Taking back undoes the last standing step and frees its rows' numbers.
    docs/STEPS.md shows each with its words.
 
+   BOUNDS. The caller of bound and search chooses which bound it is to be. OLIKUMPASHO_UNITS: what is foreseen is, of each undecided variable,
+   the lighter side of what rows with nothing else left ask of it. OLIKUMPASHO_GROUPS: what is foreseen is what groups cost, rows that cannot
+   all hold, found by unit propagation; it is never less, so that a finished search visits no more nodes, and a node takes longer.
+   docs/GROUPS.md says which groups. Searches that are done find the same by either.
+
    REFUSALS.
      number   refused because                                          by
      1        over 64 variables                                        load, weight_of, read, write, read_wcnf, write_wcnf
@@ -82,7 +87,7 @@
 #include <stdint.h>
 
 /* Rises by one with each change of a name, a number or a layout below. */
-#define OLIKUMPASHO_VERSION 3
+#define OLIKUMPASHO_VERSION 4
 
 /* ---- an answer, taken apart */
 
@@ -156,6 +161,11 @@
 #define OLIKUMPASHO_CHAIN 3
 #define OLIKUMPASHO_FORK 4
 
+/* ---- which bound: any other number is OLIKUMPASHO_GROUPS too */
+
+#define OLIKUMPASHO_UNITS 0
+#define OLIKUMPASHO_GROUPS 1
+
 /* ---- what a search found, and how it ended */
 
 #define OLIKUMPASHO_FOUND_STATUS 0
@@ -193,11 +203,11 @@
 #define OLIKUMPASHO_STACK_DECIDE 1024
 #define OLIKUMPASHO_STACK_REWRITE 8192
 #define OLIKUMPASHO_STACK_TAKE_BACK 8192
-#define OLIKUMPASHO_STACK_BOUND 8192
-#define OLIKUMPASHO_STACK_SEARCH 24576
+#define OLIKUMPASHO_STACK_BOUND 16384
+#define OLIKUMPASHO_STACK_SEARCH 40960
 #define OLIKUMPASHO_STACK_READ 2048
 #define OLIKUMPASHO_STACK_WRITE 2048
-#define OLIKUMPASHO_STACK_ANSWER 36864
+#define OLIKUMPASHO_STACK_ANSWER 40960
 #define OLIKUMPASHO_STACK_READ_WCNF 2048
 #define OLIKUMPASHO_STACK_WRITE_WCNF 2048
 
@@ -232,19 +242,19 @@ uint64_t olikumpasho_rewrite(uint64_t *desk, size_t desk_words, uint64_t kind, c
    Refused by 10 for the desk, 16, 10 for the last entry. */
 uint64_t olikumpasho_take_back(uint64_t *desk, size_t desk_words);
 
-/* The bound, as three numbers that add up to it. losses[0] is what the desk has conceded, losses[1] what is lost beyond that: the weights
-   of rows that no reading which keeps the standing decisions can satisfy. So much is certain. losses[2] is what is foreseen: no such
-   reading weighs less than the three together.
+/* The bound that is chosen, as three numbers that add up to it. losses[0] is what the desk has conceded, losses[1] what is lost beyond that:
+   the weights of rows that no reading which keeps the standing decisions can satisfy. So much is certain. losses[2] is what is foreseen: no
+   such reading weighs less than the three together.
    Refused by 10. */
-uint64_t olikumpasho_bound(const uint64_t *desk, size_t desk_words, uint64_t losses[3]);
+uint64_t olikumpasho_bound(const uint64_t *desk, size_t desk_words, uint64_t choice, uint64_t losses[3]);
 
-/* Searches the readings that keep the standing decisions, within a budget of nodes, and only reads the desk. found[0] is OLIKUMPASHO_DONE
-   or OLIKUMPASHO_STOPPED. Done means: of all those readings this one weighs least, and of those that weigh as little it is the first, true
-   before false from variable 1 on. Stopped means: the budget ended before that was certain, and this is the best reading met by then.
-   found[1] is 1 where there is a reading, whose weight and mask are found[2] and found[3]; the mask holds the decided variables too. Else
-   found[1] is 0, with 0 in those. found[4] is the count of nodes visited, at most the budget.
+/* Searches the readings that keep the standing decisions, by the bound that is chosen and within a budget of nodes, and only reads the desk.
+   found[0] is OLIKUMPASHO_DONE or OLIKUMPASHO_STOPPED. Done means: of all those readings this one weighs least, and of those that weigh as
+   little it is the first, true before false from variable 1 on. Stopped means: the budget ended before that was certain, and this is the best
+   reading met by then. found[1] is 1 where there is a reading, whose weight and mask are found[2] and found[3]; the mask holds the decided
+   variables too. Else found[1] is 0, with 0 in those. found[4] is the count of nodes visited, at most the budget.
    Refused by 10. */
-uint64_t olikumpasho_search(const uint64_t *desk, size_t desk_words, uint32_t budget, uint64_t found[5]);
+uint64_t olikumpasho_search(const uint64_t *desk, size_t desk_words, uint64_t choice, uint32_t budget, uint64_t found[5]);
 
 /* Reads a text: its rows' words, three to a row, to the front of the table, and variables, budget and rows to head[0], head[1], head[2].
    The rows are not judged; load does that.

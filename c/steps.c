@@ -58,7 +58,7 @@ static uint64_t weight_on(const uint64_t *from, uint64_t reading)
     memcpy(copy, from, sizeof copy);
     for (int v = 1; v <= (int)copy[OLIKUMPASHO_DESK_VARIABLES]; v++)
         if (!(copy[OLIKUMPASHO_DESK_DECIDED] >> (v - 1) & 1)) accepted(olikumpasho_decide(copy, WORDS, reading >> (v - 1) & 1 ? v : -v));
-    accepted(olikumpasho_bound(copy, WORDS, losses));
+    accepted(olikumpasho_bound(copy, WORDS, OLIKUMPASHO_UNITS, losses));
     return losses[OLIKUMPASHO_LOSSES_CONCEDED] + losses[OLIKUMPASHO_LOSSES_LOST] + losses[OLIKUMPASHO_LOSSES_FORESEEN];
 }
 

@@ -175,14 +175,17 @@ static void run_entries(struct run *r)
 
 static const char *any_desk_call(struct chance *c)
 {
-    static const char *const calls[] = {"wellformed", "decide 1", "rewrite 1 0 1", "back", "bound", "search 9"};
+    static const char *const calls[] = {"wellformed", "decide 1", "rewrite 1 0 1", "back", "bound 0", "search 0 9"};
     return calls[draw(c) % 6];
 }
+
+static const char *call_by_groups(struct run *r) { return one_in(&r->choices, 2) ? "bound 1" : "search 1 9"; }
 
 static void unformed(struct run *r, const char *name, word index, word value)
 {
     with_poked(r, name, index, value, "wellformed");
     with_poked(r, name, index, value, any_desk_call(&r->chance));
+    with_poked(r, name, index, value, call_by_groups(r));
 }
 
 static void unformed_sums(struct run *r)
@@ -239,6 +242,8 @@ static void break_desk(struct run *r)
     emit(r, "wellformed");
     meets(r, "(a) a word too few");
     emit(r, "%s", any_desk_call(&r->chance));
+    meets(r, "(a) a word too few");
+    emit(r, "%s", call_by_groups(r));
     emit(r, "reach %" PRIu64, r->bench.lent_count);
     if (r->bench.lent_count < size + ROW_WORDS) unformed(r, "(a) C too large for the words", CAPACITY, d[CAPACITY] + 1);
     unformed(r, "(a) C over its limit", CAPACITY, MOST_CAPACITY + 1);

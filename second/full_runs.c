@@ -36,8 +36,8 @@ static void run_full_table(struct run *r)
     emit(r, "lend %" PRIu64 " %" PRIu64, MOST_DESK + past, odd_word(c));
     emit_table(r, d.words, ROW_WORDS * d.rows);
     call_table(r, &d, "512 rows");
-    emit(r, "bound");
-    emit(r, "search %" PRIu64, between(c, 0, 200));
+    emit_bounds(r);
+    emit_searches(r, between(c, 0, 200));
     emit(r, "weight %" PRIu64 " %" PRIu64, d.variables, ~(word)0);
     emit(r, "load %" PRIu64 " %d", d.variables, MOST_LOADED - 1);
     emit(r, "load %" PRIu64 " %d", d.variables, MOST_CAPACITY + 1);
@@ -130,8 +130,8 @@ static void run_full_desk(struct run *r)
     emit(r, "wellformed");
     meets(r, "one row more than C has");
     emit_rows_from(r, MERGE, 24, 2);
-    emit(r, "bound");
-    emit(r, "search %" PRIu64, between(c, 0, 60));
+    emit_bounds(r);
+    emit_searches(r, between(c, 0, 60));
     /* the last shift's unit is 1 or 2, and opposed to one of these two */
     word last = rows - 1, opposed = lent_words(r)[row_word(last, 0)] == 1 ? 509 : 510;
     meets(r, "a high row named");
@@ -200,8 +200,8 @@ static void run_row_1023(struct run *r)
     meets(r, "one row more than C has");
     emit(r, "rewrite 2 %" PRIu64 " %" PRIu64, unit, unit - 1);
     emit(r, "decide -5");
-    emit(r, "bound");
-    emit(r, "search %" PRIu64, between(c, 0, 40));
+    emit_bounds(r);
+    emit_searches(r, between(c, 0, 40));
     call_many(r, 3);
     for (int i = 0; i < 12; i++) emit(r, "back");
 }
@@ -261,8 +261,8 @@ static void run_longest(struct run *r)
     if (one_in(c, 2)) spoil_one_row(r, kind, 1, count, count - 1);
     meets(r, added == 0 ? "no room needed" : room ? "just room" : "a row short of room");
     emit_rows_from(r, kind, 1, count);
-    emit(r, "bound");
-    emit(r, "search 60");
+    emit_bounds(r);
+    emit_searches(r, 60);
     emit(r, "back");
 }
 
@@ -288,7 +288,7 @@ static void run_steps(struct run *r)
     meets(r, "a step beside 256");
     emit(r, "decide 0");
     emit(r, "wellformed");
-    emit(r, "bound");
+    emit_bounds(r);
     meets(r, "256 steps, one taken back");
     emit(r, "back");
     emit(r, "rewrite 3 2 3");
@@ -308,7 +308,7 @@ static void run_long_search(struct run *r)
     for (int i = 0; i < 13; i++) {
         if (budgets[i] >= MOST_BUDGET - 1 || one_in(c, 2)) {
             meets(r, budgets[i] >= MOST_BUDGET - 1 ? "the largest budgets" : "a budget near 1,000");
-            emit(r, "search %" PRIu64, budgets[i]);
+            emit_searches(r, budgets[i]);
         }
     }
 }
@@ -329,17 +329,17 @@ static void run_all_variables(struct run *r)
     int turn = (int)(draw(c) % 64);
     for (int i = 0; i < MOST_VARIABLES; i++) {
         int v = (i * 27 + turn) % MOST_VARIABLES + 1;
-        if (i % 4 == 0) emit(r, "bound");
-        if (i % 16 == 0) emit(r, "search %" PRIu64, between(c, 0, 130));
+        if (i % 4 == 0) emit_bounds(r);
+        if (i % 16 == 0) emit_searches(r, between(c, 0, 130));
         meets(r, v == MOST_VARIABLES ? "variable 64 decided" : "each variable decided");
         emit(r, "decide %d", one_in(c, 2) ? v : -v);
         if (i % 8 == 0) emit(r, "decide %d", v);
     }
-    emit(r, "bound");
+    emit_bounds(r);
     meets(r, "nothing left to decide");
-    emit(r, "search 1");
+    emit_searches(r, 1);
     meets(r, "nothing left to decide");
-    emit(r, "search 0");
+    emit_searches(r, 0);
     take_all_back(r);
 }
 

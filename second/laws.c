@@ -7,17 +7,17 @@ static void check_search_law(struct tally *t, struct chance *c, struct lent d)
     struct found f, g;
     struct losses b;
     word weight, reading;
-    search(d, MOST_BUDGET, &f);
+    search(d, UNITS, MOST_BUDGET, &f);
     least_by_enumeration(d.words, &weight, &reading);
     check(t, f.done && f.kept && f.weight == weight && f.reading == reading, "finished search is the enumeration");
-    check(t, bound(d, &b).number == 0 && b.conceded + b.lost + b.foreseen <= weight, "the bound is no more than the least weight");
+    check(t, bound(d, UNITS, &b).number == 0 && b.conceded + b.lost + b.foreseen <= weight, "the bound is no more than the least weight");
     check(t, b.conceded == d.words[CONCEDED] && b.conceded + b.lost == lost(d.words), "conceded and lost are what is lost");
     check(t, desk_weight(d.words, f.reading) == f.weight, "the reading weighs what is said");
     uint32_t budget = (uint32_t)between(c, 0, f.nodes - 1);
-    search(d, budget, &g);
+    search(d, UNITS, budget, &g);
     check(t, !g.done && g.nodes == budget && (!g.kept || g.weight >= f.weight), "a smaller budget stops");
     check(t, !g.kept || desk_weight(d.words, g.reading) == g.weight, "a stopped reading weighs what is said");
-    search(d, (uint32_t)f.nodes, &g);
+    search(d, UNITS, (uint32_t)f.nodes, &g);
     check(t, g.done && g.weight == f.weight && g.nodes == f.nodes, "the full count is enough");
 }
 

@@ -91,6 +91,16 @@ struct losses {
     word conceded, lost, foreseen; /* lost: beyond conceded */
 };
 
+/* Which bound, document 02's C-14: document 01's, or for any other number that by groups. */
+enum { UNITS, GROUPS };
+
+/* Rows that cannot all hold below a node, in the order in which they join: the conflict, then the reasons of what it needs, newest first. */
+struct group {
+    word cost;
+    int count;
+    int rows[MOST_VARIABLES + 1];
+};
+
 struct clause clause_of(const word *row);
 struct clause remnant_of(const struct clause *c, const struct partial *p);
 bool is_satisfied(const struct clause *c, const struct partial *p);
@@ -105,14 +115,16 @@ bool well_formed(struct lent desk);
 struct refusal decide(struct lent desk, int64_t literal);
 struct refusal rewrite(struct lent desk, word kind, const word *named, word count);
 struct refusal take_back(struct lent desk);
-struct refusal bound(struct lent desk, struct losses *answer);
-struct refusal search(struct lent desk, uint32_t budget, struct found *answer);
+struct refusal bound(struct lent desk, word choice, struct losses *answer);
+struct refusal search(struct lent desk, word choice, uint32_t budget, struct found *answer);
 
 /* For checks, on well-formed desks only: what one reading weighs, what is lost, and the least weight over all full
    readings that keep the standing decisions, with the first reading that has it (true before false, variable 1 first). */
 word desk_weight(const word *desk, word reading);
 word lost(const word *desk);
 void least_by_enumeration(const word *desk, word *weight, word *reading);
+/* Likewise: the groups that the bound by groups finds, in this order, so many at most; the result is their number. */
+int groups_found(const word *desk, struct group *groups, int most);
 
 struct refusal read_text(const unsigned char *text, size_t length, struct lent out, struct header *head);
 struct refusal write_text(struct table t, uint32_t budget, char *out, size_t room, size_t *length);

@@ -7,6 +7,7 @@ struct run {
     FILE *out;
     struct bench bench;
     struct chance chance;
+    struct chance choices; /* of the bound; on their own, so that they change no other draw */
 };
 
 #include "fitting.c"
@@ -53,6 +54,27 @@ static void emit_text(struct run *r, const struct lines *l)
 static const word odd_words[] = {0, 1, 2, 3, 4, 5, 6, 12, 63, 64, 65, 255, 256, 257, 511, 512, 513, 1023, 1024, 1025,
                                  999999999, 1000000000, 1000000001, 4294967296, (word)1 << 63, ~(word)0 - 1, ~(word)0};
 static word odd_word(struct chance *c) { return odd_words[draw(c) % (sizeof odd_words / sizeof *odd_words)]; }
+
+/* --- under either bound --- */
+
+/* Any number but 0 chooses the bound by groups. */
+static word groups_choice(struct run *r)
+{
+    word odd = odd_word(&r->choices);
+    return odd == UNITS || one_in(&r->choices, 2) ? (word)GROUPS : odd;
+}
+
+static void emit_bounds(struct run *r)
+{
+    emit(r, "bound %d", UNITS);
+    emit(r, "bound %" PRIu64, groups_choice(r));
+}
+
+static void emit_searches(struct run *r, word budget)
+{
+    emit(r, "search %d %" PRIu64, UNITS, budget);
+    emit(r, "search %" PRIu64 " %" PRIu64, groups_choice(r), budget);
+}
 
 /* --- good and bad calls --- */
 
@@ -124,7 +146,7 @@ static void call_to_search(struct run *r)
     struct chance *c = &r->chance;
     bool small = desk_stands(r) && r->bench.lent[VARIABLES] <= 9;
     word budget = small && one_in(c, 2) ? MOST_BUDGET : one_in(c, 2) ? between(c, 0, 14) : between(c, 0, 120);
-    emit(r, "search %" PRIu64, budget);
+    emit_searches(r, budget);
 }
 
 static void call_to_weigh(struct run *r)
@@ -146,7 +168,7 @@ static void call_any(struct run *r)
     case 10: case 11: case 12: call_fitting_rewrite(r, FORK); break;
     case 13: call_any_rewrite(r); break;
     case 14: case 15: case 16: emit(r, "back"); break;
-    case 17: emit(r, "bound"); break;
+    case 17: emit_bounds(r); break;
     case 18: call_to_search(r); break;
     default:
         if (one_in(&r->chance, 2)) emit(r, "wellformed");
@@ -320,7 +342,7 @@ static void run_loads(struct run *r)
         word budget = one_in(c, 2) ? MOST_BUDGET : draw(c) % ((word)MOST_BUDGET + 1);
         emit(r, "write %" PRIu64 " %" PRIu64 " %" PRIu64 " 170", one_in(c, 8) ? odd_word(c) : d.variables, budget, room);
         emit(r, "wellformed");
-        emit(r, "bound");
+        emit_bounds(r);
     }
 }
 
@@ -381,12 +403,13 @@ enum { RUN_FAMILIES = sizeof run_families / sizeof *run_families };
 
 #include "broken_desks.c"
 #include "full_runs.c"
+#include "group_runs.c"
 
-static int generate_runs(word seed, int count, const char *dir, bool full)
+static int generate_runs(word seed, int count, const char *dir, const struct run_family *families, int many)
 {
-    struct run r = {.chance = {seed}};
+    struct run r = {.chance = {seed}, .choices = {~seed}};
     for (int i = 0; i < count; i++) {
-        const struct run_family *f = full ? &full_families[i % FULL_FAMILIES] : &run_families[i % RUN_FAMILIES];
+        const struct run_family *f = &families[i % many];
         r.out = open_case(dir, i, f->name, "run");
         if (r.out == NULL) return 2;
         r.bench = new_bench();

@@ -16,8 +16,8 @@
      decide LITERAL
      rewrite KIND ROW...   (any count, none too)
      back                  taking back
-     bound
-     search BUDGET         (0 to 4,294,967,295)
+     bound CHOICE          (0 for document 01's, any other number for that by groups)
+     search CHOICE BUDGET  (budget 0 to 4,294,967,295)
      weight VARS READING   of the table
      read ROOM FILL        the text into ROOM words, each FILL before
      write VARS BUDGET ROOM FILL   the table into ROOM bytes, each FILL (0 to 255) before
@@ -218,10 +218,10 @@ static bool run_setting(struct bench *b, const char *name, struct line *l)
 static void call_search(struct bench *b, struct line *l, FILE *out)
 {
     struct found f;
-    word budget = next_number(l);
+    word choice = next_number(l), budget = next_number(l);
     if (budget > MOST_BUDGET) l->broken = true;
     if (l->broken) return;
-    struct refusal no = search(bench_desk(b), (uint32_t)budget, &f);
+    struct refusal no = search(bench_desk(b), choice, (uint32_t)budget, &f);
     if (no.number != 0) {
         show_refusal(out, no, bench_check(b));
         return;
@@ -234,12 +234,14 @@ static void call_search(struct bench *b, struct line *l, FILE *out)
     show(out, text, bench_check(b));
 }
 
-static void call_bound(struct bench *b, FILE *out)
+static void call_bound(struct bench *b, struct line *l, FILE *out)
 {
-    struct losses l = {0, 0, 0};
+    struct losses got = {0, 0, 0};
     char text[80];
-    struct refusal no = bound(bench_desk(b), &l);
-    snprintf(text, sizeof text, "%" PRIu64 " %" PRIu64 " %" PRIu64, l.conceded, l.lost, l.foreseen);
+    word choice = next_number(l);
+    if (l->broken) return;
+    struct refusal no = bound(bench_desk(b), choice, &got);
+    snprintf(text, sizeof text, "%" PRIu64 " %" PRIu64 " %" PRIu64, got.conceded, got.lost, got.foreseen);
     show_outcome(out, no, text, bench_check(b));
 }
 
@@ -296,7 +298,7 @@ static bool run_call(struct bench *b, const char *name, struct line *l, FILE *ou
     } else if (strcmp(name, "back") == 0) {
         show_change(out, take_back(bench_desk(b)), b);
     } else if (strcmp(name, "bound") == 0) {
-        call_bound(b, out);
+        call_bound(b, l, out);
     } else if (strcmp(name, "weight") == 0) {
         call_weighing(b, l, out);
     } else if (strcmp(name, "search") == 0) {

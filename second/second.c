@@ -10,6 +10,7 @@
      second generate texts SEED COUNT DIR      COUNT texts, DIR/00000-KIND.txt and on; DIR must exist
      second generate runs SEED COUNT DIR       COUNT scripts, DIR/00000-KIND.run and on
      second generate full-texts SEED COUNT DIR and full-runs: the same at the limits
+     second generate group-runs SEED COUNT DIR scripts of bounds and searches, where groups are many, long or at the limits
      second generate wcnf SEED COUNT DIR       COUNT competition files, DIR/00000-KIND.wcnf and on
      second generate wcnf-runs SEED COUNT DIR  COUNT scripts that read and write such files
      second selftest                           checks of the model against document 01 and against enumeration
@@ -127,7 +128,9 @@ static int run_generate(char **words)
     bool full = strncmp(words[0], "full-", 5) == 0;
     const char *what = words[0] + (full ? 5 : 0);
     if (strcmp(what, "texts") == 0) return generate_texts(seed, count, words[3], full);
-    if (strcmp(what, "runs") == 0) return generate_runs(seed, count, words[3], full);
+    if (strcmp(words[0], "runs") == 0) return generate_runs(seed, count, words[3], run_families, RUN_FAMILIES);
+    if (strcmp(words[0], "full-runs") == 0) return generate_runs(seed, count, words[3], full_families, FULL_FAMILIES);
+    if (strcmp(words[0], "group-runs") == 0) return generate_runs(seed, count, words[3], group_families, GROUP_FAMILIES);
     if (strcmp(words[0], "wcnf-runs") == 0) return generate_competition_runs(seed, count, words[3]);
     if (strcmp(words[0], "wcnf") == 0) return generate_competitions(seed, count, words[3]);
     return 2;
@@ -157,7 +160,7 @@ int main(int count, char **words)
     if (count == 2 && strcmp(words[1], "selftest") == 0) return selftest();
     if (count == 3 && strcmp(words[1], "vectors") == 0) return run_vectors(words[2], NULL);
     if (count == 4 && strcmp(words[1], "scripts") == 0) return run_vectors(words[2], words[3]);
-    fputs("second answer|desk|wcnf|wcnf-read|wcnf-copy [FILE..] | generate [full-]texts|[full-]runs|wcnf|wcnf-runs SEED COUNT DIR | selftest | vectors FILE |"
+    fputs("second answer|desk|wcnf|wcnf-read|wcnf-copy [FILE..] | generate [full-]texts|[full-|group-]runs|wcnf|wcnf-runs SEED COUNT DIR | selftest | vectors FILE |"
           " scripts FILE DIR\n", stderr);
     return 2;
 }

@@ -73,26 +73,49 @@ static bool rows_are(const word *desk, const char *rows)
 static bool search_gives(struct lent desk, uint32_t budget, bool done, word weight, word reading, word nodes)
 {
     struct found f;
-    if (search(desk, budget, &f).number != 0 || !f.kept) return false;
+    if (search(desk, UNITS, budget, &f).number != 0 || !f.kept) return false;
     return f.done == done && f.weight == weight && f.reading == reading && f.nodes == nodes;
 }
 
 static bool stops_with_none(struct lent desk, uint32_t budget)
 {
     struct found f;
-    return search(desk, budget, &f).number == 0 && !f.done && !f.kept && f.nodes == budget;
+    return search(desk, UNITS, budget, &f).number == 0 && !f.done && !f.kept && f.nodes == budget;
 }
 
 static bool losses_are(struct lent desk, word conceded, word lost, word foreseen)
 {
     struct losses b;
-    return bound(desk, &b).number == 0 && b.conceded == conceded && b.lost == lost && b.foreseen == foreseen;
+    return bound(desk, UNITS, &b).number == 0 && b.conceded == conceded && b.lost == lost && b.foreseen == foreseen;
 }
 
-static bool bound_is(struct lent desk, word value)
+static bool bound_is(struct lent desk, word choice, word value)
 {
     struct losses b;
-    return bound(desk, &b).number == 0 && b.conceded + b.lost + b.foreseen == value;
+    return bound(desk, choice, &b).number == 0 && b.conceded + b.lost + b.foreseen == value;
+}
+
+static bool names_row(const struct group *g, word row)
+{
+    for (int i = 0; i < g->count; i++)
+        if ((word)g->rows[i] == row) return true;
+    return false;
+}
+
+/* The groups found are those of the text, in its order: "0 1 4, 2 3" is two, each with its rows by rising number. */
+static bool groups_are(const word *desk, const char *text)
+{
+    struct group groups[20];
+    char found[1000] = "";
+    size_t at = 0;
+    int count = groups_found(desk, groups, 20);
+    for (int i = 0; i < count; i++)
+        for (word r = 0, first = 1; r < desk[IN_USE]; r++) {
+            if (!names_row(&groups[i], r)) continue;
+            at += (size_t)sprintf(found + at, "%s%" PRIu64, !first ? " " : i > 0 ? ", " : "", r);
+            first = 0;
+        }
+    return strcmp(found, text) == 0;
 }
 
 static bool is(struct refusal no, unsigned number, word place) { return no.number == number && no.place == place; }
@@ -242,13 +265,15 @@ static void check_scripts(struct tally *t)
     char line[60];
     sprintf(line, "lend %" PRIu64 " 9", lent);
     check(t, run_line(&b, "table 1 0 3 0 1 2", NULL) && run_line(&b, line, NULL), "settings");
-    check(t, prints(&b, "load 1 2", "ok", loaded) && prints(&b, "bound", "0 0 2", loaded), "load and bound");
-    check(t, prints(&b, "search 100", "done 2 1 3", loaded), "search");
-    check(t, prints(&b, "search 0", "stopped none none 0", loaded), "search without a reading");
+    check(t, prints(&b, "load 1 2", "ok", loaded) && prints(&b, "bound 0", "0 0 2", loaded), "load and bound");
+    check(t, prints(&b, "bound 1", "0 0 2", loaded) && prints(&b, "bound 18446744073709551615", "0 0 2", loaded), "the bound by groups");
+    check(t, prints(&b, "search 0 100", "done 2 1 3", loaded) && prints(&b, "search 1 100", "done 2 1 3", loaded), "search");
+    check(t, prints(&b, "search 0 0", "stopped none none 0", loaded), "search without a reading");
     check(t, prints(&b, "rewrite 1 0 1", "ok", merged) && prints(&b, "back", "ok", loaded), "merge and taking back");
     check(t, prints(&b, "back", "refused 16 0", loaded) && prints(&b, "weight 1 0", "3", loaded), "a refusal");
     check(t, prints(&b, "wellformed", "yes", loaded), "well formed");
     check(t, !run_line(&b, "load 1", NULL) && !run_line(&b, "merge 0 1", NULL), "bad lines");
+    check(t, !run_line(&b, "bound", NULL) && !run_line(&b, "search 9", NULL), "no choice of bound");
     check(t, !run_line(&b, "back 1", NULL), "a word too many");
     end_bench(&b);
 }
@@ -256,6 +281,7 @@ static void check_scripts(struct tally *t)
 #include "refusals.c"
 #include "wcnf_checks.c"
 #include "laws.c"
+#include "group_laws.c"
 
 static int selftest(void)
 {
@@ -275,6 +301,7 @@ static int selftest(void)
     check_competitions(&t);
     check_refusals(&t);
     check_laws(&t);
+    check_group_laws(&t);
     printf("%d passed, %d failed\n", t.all_passed, t.all_failed);
     return t.all_failed == 0 ? 0 : 1;
 }

@@ -190,8 +190,8 @@ static struct refusal solve(const unsigned char *input, size_t length, word *var
     no = load((struct lent){desk, MOST_DESK}, t, head.rows);
     if (no.number != 0) return no;
     *variables = head.variables;
-    bound((struct lent){desk, MOST_DESK}, root);
-    return search((struct lent){desk, MOST_DESK}, head.budget, f);
+    bound((struct lent){desk, MOST_DESK}, UNITS, root);
+    return search((struct lent){desk, MOST_DESK}, UNITS, head.budget, f);
 }
 
 size_t program_answer(const unsigned char *input, size_t length, char *out)

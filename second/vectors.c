@@ -1,6 +1,6 @@
 /* Part of second.c: runs the vectors of the source documents. The form of a line is explained at the top of vectors.txt. */
 
-enum { VECTOR_FIELDS = 6, LEAST_VECTORS = 72 };
+enum { VECTOR_FIELDS = 6, LEAST_VECTORS = 105 };
 static const char *const vector_kinds[] = {"decide", "merge", "shift", "chain", "fork"};
 
 static char *without_spaces(char *text)
@@ -87,7 +87,7 @@ static word least_weight(struct lent d, bool *agreed)
 {
     struct found f;
     word weight, reading;
-    search(d, MOST_BUDGET, &f);
+    search(d, UNITS, MOST_BUDGET, &f);
     least_by_enumeration(d.words, &weight, &reading);
     *agreed = f.done && f.kept && f.weight == weight && f.reading == reading;
     return weight;
@@ -110,7 +110,9 @@ static bool result_holds(struct lent d, char *result)
     bool agreed;
     if (sscanf(result, "conceded %u", &n) == 1) return w[CONCEDED] == n;
     if (sscanf(result, "lost %u", &n) == 1) return lost(w) == n;
-    if (sscanf(result, "bound %u", &n) == 1) return bound_is(d, n);
+    if (sscanf(result, "bound %u", &n) == 1) return bound_is(d, UNITS, n);
+    if (sscanf(result, "groups %u", &n) == 1) return bound_is(d, GROUPS, n);
+    if (begins(result, "found ")) return groups_are(w, result + 6);
     if (sscanf(result, "least %u", &n) == 1) return least_weight(d, &agreed) == n && agreed;
     if (sscanf(result, "atleast %u", &n) == 1) return least_weight(d, &agreed) >= n && agreed;
     if (sscanf(result, "row %u %u", &row, &n) == 2) return row < w[IN_USE] && desk_row(w, row)[2] == n;
@@ -151,7 +153,7 @@ static void write_script(char **fields, FILE *out)
         if (kind == DECIDE) fprintf(out, "decide%s\n", step);
         else fprintf(out, "rewrite %" PRIu64 "%s\n", kind, step);
     }
-    fprintf(out, "bound\nsearch %u\nwords 0 %" PRIu64 "\n", MOST_BUDGET, desk_size(100));
+    fprintf(out, "bound 0\nbound 1\nsearch 0 %u\nsearch 1 %u\nwords 0 %" PRIu64 "\n", MOST_BUDGET, MOST_BUDGET, desk_size(100));
 }
 
 /* The next vector's fields, or false at the end. A line with fewer fields leaves the last ones empty. */

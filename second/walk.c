@@ -1,4 +1,4 @@
-/* Part of model.c: what is lost, the bound, the walk, and the enumeration that a finished walk is checked against. */
+/* Part of model.c: what is lost, the two bounds, the walk, and the enumeration that a finished walk is checked against. */
 
 /* The rows in use as literal lists, made once for many nodes. */
 struct sheet {
@@ -27,7 +27,7 @@ static word lost_beyond(const struct sheet *s, const struct partial *p)
     return weight;
 }
 
-static word foreseen_under(const struct sheet *s, const struct partial *p)
+static word foreseen_by_units(const struct sheet *s, const struct partial *p)
 {
     word positive[MOST_VARIABLES + 1] = {0}, negative[MOST_VARIABLES + 1] = {0};
     for (int r = 0; r < s->count; r++) {
@@ -43,9 +43,12 @@ static word foreseen_under(const struct sheet *s, const struct partial *p)
     return sum;
 }
 
-static word bound_under(const struct sheet *s, const struct partial *p)
+#include "groups.c"
+
+static struct losses losses_under(const struct sheet *s, word choice, const struct partial *p)
 {
-    return s->conceded + lost_beyond(s, p) + foreseen_under(s, p);
+    word foreseen = choice == UNITS ? foreseen_by_units(s, p) : foreseen_by_groups(s, p);
+    return (struct losses){s->conceded, lost_beyond(s, p), foreseen};
 }
 
 word lost(const word *desk)
@@ -55,17 +58,18 @@ word lost(const word *desk)
     return s.conceded + lost_beyond(&s, &p);
 }
 
-struct refusal bound(struct lent desk, struct losses *answer)
+struct refusal bound(struct lent desk, word choice, struct losses *answer)
 {
     if (!well_formed(desk)) return refused(10);
     struct sheet s = sheet_of(desk.words);
     struct partial p = standing(desk.words);
-    *answer = (struct losses){s.conceded, lost_beyond(&s, &p), foreseen_under(&s, &p)};
+    *answer = losses_under(&s, choice, &p);
     return accepted();
 }
 
 struct walk {
     struct sheet sheet;
+    word choice;
     word best;
     bool kept;
     word reading;
@@ -104,7 +108,8 @@ static void visit(struct walk *w, struct partial p)
         return;
     }
     w->nodes++;
-    word b = bound_under(&w->sheet, &p);
+    struct losses l = losses_under(&w->sheet, w->choice, &p);
+    word b = l.conceded + l.lost + l.foreseen;
     if (b >= w->best) return;
     int v = next_variable(w, &p);
     if (v == 0) {
@@ -117,10 +122,10 @@ static void visit(struct walk *w, struct partial p)
     visit(w, fix(p, v, -1));
 }
 
-struct refusal search(struct lent desk, uint32_t budget, struct found *answer)
+struct refusal search(struct lent desk, word choice, uint32_t budget, struct found *answer)
 {
     if (!well_formed(desk)) return refused(10);
-    struct walk w = {.sheet = sheet_of(desk.words), .budget = budget};
+    struct walk w = {.sheet = sheet_of(desk.words), .choice = choice, .budget = budget};
     w.best = (word)conceded_and_weights(desk.words, desk.words[IN_USE]) + 1;
     visit(&w, standing(desk.words));
     *answer = (struct found){!w.stopped, w.kept, w.kept ? w.best : 0, w.reading, w.nodes};

@@ -141,7 +141,7 @@ static struct refusal solve_wcnf(const unsigned char *input, size_t length, uint
     no = load((struct lent){desk, MOST_DESK}, t, figures.clauses);
     if (no.number != 0) return no;
     *variables = figures.variables;
-    return search((struct lent){desk, MOST_DESK}, budget, f);
+    return search((struct lent){desk, MOST_DESK}, UNITS, budget, f);
 }
 
 size_t wcnf_answer(const unsigned char *input, size_t length, uint32_t budget, char *out)

@@ -183,26 +183,26 @@ struct refusal take_back(struct lent desk)
     return told(answer, 0);
 }
 
-struct refusal bound(struct lent desk, struct losses *losses)
+struct refusal bound(struct lent desk, word choice, struct losses *losses)
 {
     word answer = 0, got[3];
     for AT_BOTH_PLACES(place) {
         const word *words = lend_to_read(&desk_room, place, desk.words, bytes_of(desk.count));
         word *result = lend_results(place, 3);
-        agree(place, &answer, olikumpasho_bound(words, desk.count, result), got, 3, NULL, NULL);
+        agree(place, &answer, olikumpasho_bound(words, desk.count, choice, result), got, 3, NULL, NULL);
         read_back(&desk_room);
     }
     *losses = (struct losses){got[0], got[1], got[2]};
     return told(answer, 3);
 }
 
-struct refusal search(struct lent desk, uint32_t budget, struct found *found)
+struct refusal search(struct lent desk, word choice, uint32_t budget, struct found *found)
 {
     word answer = 0, got[5];
     for AT_BOTH_PLACES(place) {
         const word *words = lend_to_read(&desk_room, place, desk.words, bytes_of(desk.count));
         word *result = lend_results(place, 5);
-        agree(place, &answer, olikumpasho_search(words, desk.count, budget, result), got, 5, NULL, NULL);
+        agree(place, &answer, olikumpasho_search(words, desk.count, choice, budget, result), got, 5, NULL, NULL);
         read_back(&desk_room);
     }
     expect(answer != 0 || (got[0] <= 1 && got[1] <= 1), "a word for status or kept that the header has not");

@@ -215,25 +215,42 @@ static void take_them_back(void)
     expect("a bad entry", take_back, 10);
 }
 
-static void bound_them(void)
+static void bound_by(uint64_t choice)
 {
+    at->choice = choice;
     longest_table();
     aside(load);
     expect("bound", bound, 0);
     deep_table();
     aside(load);
     expect("bound", bound, 0);
+    chained_table();
+    aside(load);
+    expect("bound", bound, 0);
+}
+
+static void bound_them(void)
+{
+    bound_by(OLIKUMPASHO_UNITS);
+    bound_by(OLIKUMPASHO_GROUPS);
     at->desk_words = 7;
     expect("a short desk", bound, 10);
 }
 
-static void search_them(void)
+static void search_by(uint64_t choice)
 {
+    at->choice = choice;
     deep_table();
     aside(load);
     for (at->budget = 0; at->budget <= 130; at->budget++) expect("search", search, 0);
     if (at->result[OLIKUMPASHO_FOUND_STATUS] != OLIKUMPASHO_DONE || at->result[OLIKUMPASHO_FOUND_NODES] != 2 * VARIABLES + 1)
         fail("search: not down to the last variable");
+}
+
+static void search_them(void)
+{
+    search_by(OLIKUMPASHO_UNITS);
+    search_by(OLIKUMPASHO_GROUPS);
     at->desk_words = 7;
     expect("a short desk", search, 10);
 }
@@ -330,8 +347,8 @@ static void nulls(void)
     told("rewrite", olikumpasho_rewrite(NULL, 0, OLIKUMPASHO_MERGE, NULL, 0), OLIKUMPASHO_BAD_DESK, 0);
     told("rewrite, no rows", olikumpasho_rewrite(desk, most, OLIKUMPASHO_MERGE, NULL, 0), OLIKUMPASHO_BAD_NAMING, 0);
     told("take_back", olikumpasho_take_back(NULL, 0), OLIKUMPASHO_BAD_DESK, 0);
-    told("bound", olikumpasho_bound(NULL, 0, result), OLIKUMPASHO_BAD_DESK, 0);
-    told("search", olikumpasho_search(NULL, 0, 1, result), OLIKUMPASHO_BAD_DESK, 0);
+    told("bound", olikumpasho_bound(NULL, 0, OLIKUMPASHO_GROUPS, result), OLIKUMPASHO_BAD_DESK, 0);
+    told("search", olikumpasho_search(NULL, 0, OLIKUMPASHO_GROUPS, 1, result), OLIKUMPASHO_BAD_DESK, 0);
     told("read, no text", olikumpasho_read(NULL, 0, NULL, 0, result), OLIKUMPASHO_BAD_TEXT, 1);
     told("read", olikumpasho_read(bare, sizeof bare - 1, NULL, 0, result), 0, 0);
     told("write, no room", olikumpasho_write(0, 1, NULL, 0, NULL, 0, &at->size), OLIKUMPASHO_NO_ROOM, 0);

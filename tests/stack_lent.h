@@ -5,7 +5,7 @@ enum { ROWS = OLIKUMPASHO_MOST_ROWS, VARIABLES = OLIKUMPASHO_MOST_VARIABLES, CAP
 
 /* What the next call is lent, and what it answered. */
 static struct {
-    uint64_t table[3 * ROWS], desk[OLIKUMPASHO_DESK_WORDS(CAPACITY)], named[12], result[5], variables, reading, capacity, kind, answer;
+    uint64_t table[3 * ROWS], desk[OLIKUMPASHO_DESK_WORDS(CAPACITY)], named[12], result[5], variables, reading, capacity, kind, choice, answer;
     uint8_t text[OLIKUMPASHO_MOST_WRITTEN], output[OLIKUMPASHO_MOST_WRITTEN];
     size_t words, desk_words, count, text_size, room, size;
     int64_t literal;
@@ -18,8 +18,8 @@ static void well_formed(void) { at->answer = olikumpasho_well_formed(at->desk, a
 static void decide(void) { at->answer = olikumpasho_decide(at->desk, at->desk_words, at->literal); }
 static void rewrite(void) { at->answer = olikumpasho_rewrite(at->desk, at->desk_words, at->kind, at->named, at->count); }
 static void take_back(void) { at->answer = olikumpasho_take_back(at->desk, at->desk_words); }
-static void bound(void) { at->answer = olikumpasho_bound(at->desk, at->desk_words, at->result); }
-static void search(void) { at->answer = olikumpasho_search(at->desk, at->desk_words, at->budget, at->result); }
+static void bound(void) { at->answer = olikumpasho_bound(at->desk, at->desk_words, at->choice, at->result); }
+static void search(void) { at->answer = olikumpasho_search(at->desk, at->desk_words, at->choice, at->budget, at->result); }
 static void read_text(void) { at->answer = olikumpasho_read(at->text, at->text_size, at->table, at->words, at->result); }
 static void write_text(void)
 {

@@ -17,8 +17,10 @@ use Rattle.rules.specs.Desk.{inUse, rowOn}
 use Rattle.rules.specs.Bound.{unitWeight, foreseenAt}
 use Rattle.units.specs.Adds.{sumWords, unitAt, rowAdds, Roomy, Grown}
 use Rattle.units.proofs.Places.{positive-at, negative-at}
-use Rattle.bound.specs.Units.{Readable, Gathered, smallerAt}
-use Rattle.bound.proofs.Fits.{row-fits, rows-fit, foreseenBy}
+use Rattle.desk_laws.specs.Readable.{Readable}
+use Rattle.bound.specs.Units.{Gathered, smallerAt}
+use Rattle.desk_laws.proofs.Readable.{row-fits, rows-fit}
+use Rattle.bound.proofs.Fits.{addsAt}
 
 module _ (d : List ℕ) (p : Part) where
   pub none-gathered : Gathered d p 0 (replicate sumWords 0)
@@ -53,7 +55,7 @@ module _ (d : List ℕ) (p : Part) where
     unfolding unitWeight
     sum-at k h l e = gathered .each k h ∙ ap (λ (m : Lits). unitWeight d p m) e
 
-    pub gathered-by : (v : ℕ) → v < mostVariables → smallerAt (p .decided) v sums ≡ foreseenBy d p v
+    pub gathered-by : (v : ℕ) → v < mostVariables → smallerAt (p .decided) v sums ≡ addsAt d p v
     unfolding foreseenAt
     gathered-by v h =
         ap (λ (x : ℕ). cond {A = ℕ} (has (p .decided) v) 0 x)

@@ -1,5 +1,5 @@
--- What the inner functions of the bound ask of a desk, and the sums of units that they gather.
-use Prim.Native.Nat.{ℕ, _+_, _*_, _≤_, _<_, min}
+-- The sums of units that the bound gathers.
+use Prim.Native.Nat.{ℕ, _+_, _<_, min}
 use mathlib.Core.List.{List}
 use mathlib.Core.Path.{_≡_}
 use mathlib.Core.Bool.{cond}
@@ -8,15 +8,8 @@ use Rattle.masks.specs.Masks.{has}
 use Rattle.masks.specs.Sums.{sum}
 use Rattle.literals.specs.Literal.{mostVariables}
 use Rattle.rules.specs.declared.Part.{Part}
-use Rattle.rules.specs.Table.{rowWords, mostWeight}
-use Rattle.rules.specs.Desk.{headWords, variables, inUse, rowOn, weightOn}
+use Rattle.rules.specs.Desk.{rowOn}
 use Rattle.units.specs.Adds.{sumWords, rowAdds}
-
--- The rows in use lie within the words, no sum of their weights wraps, and each variable has a bit. So it is where a desk is well formed.
-pub record Readable (d : List ℕ) : Type 0 where
-  pub rows : headWords + rowWords * inUse d ≤ length d
-  pub weights : weightOn d ≤ mostWeight
-  pub bits : variables d ≤ mostVariables
 
 -- each of the sums is that of the first n rows
 pub record Gathered (d : List ℕ) (p : Part) (n : ℕ) (sums : List ℕ) : Type 0 where

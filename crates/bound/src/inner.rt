@@ -1,4 +1,4 @@
-// The bound under any partial reading, of a desk that the caller has judged: what a search asks at each node.
+// Document 01's bound under any partial reading, of a desk that the caller has judged: what a search by it asks at each node.
 ghost use mathlib.Core.Path.{_≡_};
 ghost use Prim.Native.Nat.{_<_};
 ghost use lib.ListN.{length};
@@ -6,7 +6,8 @@ ghost use Rattle.literals.specs.Literal.{mostVariables};
 ghost use Rattle.rules.specs.Desk.{inUse, decisions};
 ghost use Rattle.rules.specs.Bound.{lostBeyond, foreseen, bound, lossesAt};
 ghost use Rattle.units.specs.Adds.{sumWords};
-ghost use Rattle.bound.specs.Units.{Readable, Gathered, smallerAt};
+ghost use Rattle.desk_laws.specs.Readable.{Readable};
+ghost use Rattle.bound.specs.Units.{Gathered, smallerAt};
 use rules::Desk;
 use rules::Losses;
 use rules::Part;

@@ -1,4 +1,5 @@
--- The demands hold. Each is put together here from the laws of the crates below: steps and runs (step_laws), bound and walk (walk_laws), text (text_laws).
+-- The demands hold. Each is put together here from the laws of the crates below: steps and runs (step_laws), bound and walk (walk_laws, search_laws), text
+-- (text_laws).
 use Prim.Native.Nat.{ℕ, _≤_}
 use mathlib.Core.Path.{_≡_, refl, sym, ap, _∙_, subst}
 use mathlib.Core.List.{List, _++_}
@@ -7,6 +8,7 @@ use native.Mathlib.Omega.{arith}
 use lib.ListN.{length, take, drop}
 use lib.IntN.{ℤ}
 use Rattle.masks.proofs.Choice.{impossible}
+use Rattle.rules.specs.declared.Choice.{Choice}
 use Rattle.rules.specs.declared.Judged.{Judged}
 use Rattle.rules.specs.declared.Judged.the-variants.{Fine, Refused}
 use Rattle.rules.specs.declared.Searched.{Searched}
@@ -137,9 +139,10 @@ load-laid : (n : ℕ) (table : List ℕ) (c : ℕ) (d : List ℕ) → loadWhy n 
 unfolding loadDesk
 load-laid n table c d fine = rw fine
 
-search-given : (d : List ℕ) (budget : ℕ) → wellFormed d ≡ true → searched d budget ≡ Searched.Found (foundBy (walkIn d budget))
+search-given : (d : List ℕ) (choice : Choice) (budget : ℕ) → wellFormed d ≡ true
+    → searched d choice budget ≡ Searched.Found (foundBy (walkIn d choice budget))
 unfolding searched deskWhy
-search-given d budget w = rw w
+search-given d choice budget w = rw w
 
 run-kept : (n : ℕ) (table : List ℕ) (c : ℕ) (d : List ℕ) → loadWhy n table c d ≡ Fine → (calls : List Call) → LoadsRefused (loadStep n table c d) calls
     → Kept n table c d calls (loadStep n table c d) (afterCalls (loadStep n table c d) calls)
@@ -160,10 +163,10 @@ run-kept n table c d fine calls loads =
       decidedStand = masks .0;
       trueStand = masks .1;
       untouched = run-untouched n table c d fine calls loads;
-      bounds = λ full l answer k. subst (λ (x : ℕ). total l ≤ x) (weights full k) (explained after l answer .least full k);
+      bounds = λ choice full l answer k. subst (λ (x : ℕ). total l ≤ x) (weights full k) (explained after choice l answer .least full k);
       neverTen = run-never-ten n table c d fine calls loads;
-      boundGiven = bound-given after well;
-      searchGiven = λ budget. search-given after budget well;
+      boundGiven = λ choice. bound-given after choice well;
+      searchGiven = λ choice budget. search-given after choice budget well;
     }
 
 pub demand-3 : Demand3

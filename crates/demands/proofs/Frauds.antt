@@ -14,6 +14,7 @@ use Rattle.masks.specs.Sums.{sum, every}
 use Rattle.masks.specs.Words.{zeroed}
 use Rattle.literals.specs.Literal.{size, isPositive, isLiteral, bitOf, litsOf}
 use Rattle.literals.specs.Lits.{noLits, together, isEmpty, sameLits}
+use Rattle.rules.specs.declared.Choice.{Choice}
 use Rattle.rules.specs.declared.Refusal.{Refusal}
 use Rattle.rules.specs.declared.Status.{Status}
 use Rattle.rules.specs.declared.Best.{Best}
@@ -27,7 +28,8 @@ use Rattle.rules.specs.Desk.{standing, rowPlace, entryPlace, deskWords, rowOn, 
 use Rattle.rules.specs.Desk.{wellFormed, loadWhy, loadStep, decisions, satisfied, remnant, deskWeighs, keeps}
 use Rattle.rules.specs.Decide.{entered, badLiteral, decideWhy, decisionEntry, decideStep, decideDesk}
 use Rattle.rules.specs.TakeBack.{takeBackDesk, lastPlace, lastKind, lastVariable, badDecision, badLast, withdrawn, undoDecision, takeBackStep, takeBackWhy}
-use Rattle.rules.specs.Bound.{weightWhere, lostBeyond, lost, unitWeight, foreseenAt, foreseen, bound, lossesAt, total, deskWhy, bounded}
+use Rattle.rules.specs.Bound.{weightWhere, lostBeyond, lost, unitWeight, foreseenAt, foreseen, bound, lossesAt, total, deskWhy}
+use Rattle.rules.specs.Choice.{bounded}
 use Rattle.rules.specs.Walk.{fixed, visited, keptAt, halted, walk, undecided, atStart, walkOf, searched}
 use Rattle.rules.specs.Calls.{Call, decide, takeBack, afterCall, afterCalls}
 use Rattle.rules.specs.Examples.{x, not-x, row, lent, desk}
@@ -92,29 +94,29 @@ no-idle-taking-back k = omega (arith, k .standingCount, p8-stands .0, p8-stands 
 abbrev p4-found : Status → ℕ → ℕ → ℕ → Searched
 p4-found status weight reading nodes = Searched.Found (record { status = status; best = Best.Reading weight reading; nodes = nodes })
 
-p4-searched : (searched (desk 3 p4 5) 6 ≡ p4-found Status.Stopped 2 7 6) × (searched (desk 3 p4 5) 10 ≡ p4-found Status.Stopped 1 6 10) × (searched
-    (desk 3 p4 5) 11 ≡ p4-found Status.Done 1 6 11)
+p4-searched : (searched (desk 3 p4 5) Choice.Units 6 ≡ p4-found Status.Stopped 2 7 6) ×
+    (searched (desk 3 p4 5) Choice.Units 10 ≡ p4-found Status.Stopped 1 6 10) × (searched (desk 3 p4 5) Choice.Units 11 ≡ p4-found Status.Done 1 6 11)
 unfolding searched walkOf walk fixed visited keptAt halted undecided atStart deskWhy bound lost lostBeyond foreseen foreseenAt unitWeight weightWhere
     isEmpty sameLits decisions satisfied remnant wellFormed reaches inLimits rowsSound weightFits masksNest weightOn rowOn rowIn rowPlace deskWords
     rowCount loadStep badLits rowWordsOf noLits together litsOf bitOf size isPositive has bit sum every without none below single
 p4-searched = (refl, refl, refl)
 
-pub no-pretended-walk : (f : Found) → (searched (desk 3 p4 5) 6 ≡ Searched.Found f) ⊎ (searched (desk 3 p4 5) 10 ≡ Searched.Found f)
+pub no-pretended-walk : (f : Found) → (searched (desk 3 p4 5) Choice.Units 6 ≡ Searched.Found f) ⊎ (searched (desk 3 p4 5) Choice.Units 10 ≡ Searched.Found f)
     → f .status ≡ Status.Done → ⊥
 no-pretended-walk f (inl e) done = let a = p4-searched .0 in let s : f .status ≡ Status.Stopped = cc in impossible (cc)
 no-pretended-walk f (inr e) done = let a = p4-searched .1 in let s : f .status ≡ Status.Stopped = cc in impossible (cc)
 
-pub no-invented-count : (f : Found) → searched (desk 3 p4 5) 11 ≡ Searched.Found f → f .nodes ≡ 11
+pub no-invented-count : (f : Found) → searched (desk 3 p4 5) Choice.Units 11 ≡ Searched.Found f → f .nodes ≡ 11
 no-invented-count f e = let a = p4-searched .2 in cc
 
 -- "a bound that is always 0" falls "to its definition and P2"
-p2-bound : bounded (desk 1 p2 2) ≡ Bounded.Bound (record { conceded = 0; lost = 0; foreseen = 2 })
+p2-bound : bounded (desk 1 p2 2) Choice.Units ≡ Bounded.Bound (record { conceded = 0; lost = 0; foreseen = 2 })
 unfolding bounded deskWhy lossesAt lostBeyond foreseen foreseenAt unitWeight weightWhere isEmpty sameLits decisions satisfied remnant wellFormed
     reaches inLimits rowsSound weightFits masksNest weightOn rowOn rowIn rowPlace deskWords rowCount loadStep badLits rowWordsOf noLits together
     litsOf bitOf size isPositive has bit sum every without none below single
 p2-bound = refl
 
-pub no-zero-bound : (l : Losses) → bounded (desk 1 p2 2) ≡ Bounded.Bound l → total l ≡ 0 → ⊥
+pub no-zero-bound : (l : Losses) → bounded (desk 1 p2 2) Choice.Units ≡ Bounded.Bound l → total l ≡ 0 → ⊥
 no-zero-bound l e z =
     let two : Bounded.Bound (record { conceded = 0; lost = 0; foreseen = 2 }) ≡ Bounded.Bound l = sym p2-bound ∙ e in
     let is : record { conceded = 0; lost = 0; foreseen = 2 } ≡ l = cc in

@@ -4,5 +4,6 @@ pub mod Searching
 pub mod Lines
 pub mod Competing
 pub mod Losses
+pub mod Bounds
 pub mod Demands
 pub mod Frauds

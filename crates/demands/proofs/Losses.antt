@@ -1,7 +1,7 @@
 -- The three numbers of a bound are what is said of them. A row that counts as lost is unsatisfied with an empty remnant, so no reading that keeps the
 -- decisions satisfies it. For any other row there is one that does: the decided truths alone, where the row is satisfied already or its remnant has a
 -- negative literal; else with the remnant's positive literals made true.
-use Prim.Native.Nat.{ℕ, _^_, _<_}
+use Prim.Native.Nat.{ℕ, _^_, _≤_, _<_}
 use mathlib.Core.Path.{_≡_, refl, sym, ap, _∙_, subst}
 use mathlib.Core.Bool.{Bool, true, false, not, _&&_, _||_, or-true}
 use mathlib.Core.List.{List}
@@ -13,17 +13,24 @@ use Rattle.masks.proofs.Sets.{and-or, and-or-self, without-lt, within-and, with
 use Rattle.literals.specs.declared.Lits.{Lits}
 use Rattle.literals.specs.Lits.{isEmpty}
 use Rattle.literals.proofs.TwoMasks.{masks-empty}
+use Rattle.rules.specs.declared.Choice.{Choice}
+use Rattle.rules.specs.declared.Losses.{Losses}
+use Rattle.rules.specs.declared.Part.{Part}
 use Rattle.rules.specs.declared.Bounded.{Bounded}
-use Rattle.rules.specs.declared.Refusal.the-variants.{BadDesk}
 use Rattle.rules.specs.Table.{holds}
-use Rattle.rules.specs.Desk.{variables, inUse, conceded, decided, truths, rowOn, wellFormed, decisions, satisfied, remnant, keeps}
-use Rattle.rules.specs.Bound.{weightWhere, lostBeyond, lost, foreseen, bound, lossesAt, deskWhy, bounded}
+use Rattle.rules.specs.Desk.{variables, inUse, conceded, decided, truths, rowOn, wellFormed, decisions, satisfied, remnant, deskWeighs, keeps}
+use Rattle.rules.specs.Bound.{weightWhere, lostBeyond, lossesAt, deskWhy}
+use Rattle.rules.specs.Groups.{lossesByGroups}
+use Rattle.rules.specs.Choice.{boundBy, lossesBy, bounded}
 use Rattle.desk_laws.proofs.Formed.{Formed, formed}
 use Rattle.step_laws.proofs.DecisionKept.{keeps-facts, facts-keep}
 use Rattle.walk_laws.specs.Sound.{Extends}
 use Rattle.walk_laws.proofs.Remnants.{holds-split, holds-empty}
-use Rattle.walk_laws.proofs.Bounds.{lost-below, bound-below}
-use Rattle.demands.specs.Losses.{GivenUp, Satisfiable, Explained, LossesExplained}
+use Rattle.walk_laws.proofs.Bounds.{lost-below}
+use Rattle.walk_laws.proofs.Done.{root, keeps-leaf}
+use Rattle.search_laws.proofs.Either.{either-sound, either-certain, either-total}
+use Rattle.search_laws.proofs.Answers.{bounded-well}
+use Rattle.demands.specs.Losses.{GivenUp, Satisfiable, Beyond, foreseenBy, Explained, LossesExplained}
 
 module _ (d : List ℕ) (f : Formed d) where
   -- what is true is within the variables
@@ -119,33 +126,45 @@ module _ (d : List ℕ) (f : Formed d) where
 
 -- ---- the three numbers
 
-module _ (d : List ℕ) (well : wellFormed d ≡ true) where
-  pub bound-given : bounded d ≡ Bounded.Bound (lossesAt d (decisions d))
+losses-are : (choice : Choice) (d : List ℕ) (p : Part)
+    → lossesBy choice d p ≡ record { conceded = conceded d; lost = lostBeyond d p; foreseen = foreseenBy choice d p }
+unfolding lossesAt lossesByGroups
+losses-are Choice.Units d p = refl
+losses-are Choice.Groups d p = refl
+
+module _ (d : List ℕ) (choice : Choice) (well : wellFormed d ≡ true) where
+  pub bound-given : bounded d choice ≡ Bounded.Bound (lossesBy choice d (decisions d))
   unfolding bounded deskWhy
   bound-given = rw well
 
-  explained-here : Explained d (lossesAt d (decisions d))
-  unfolding lossesAt lostBeyond weightWhere bound lost
-  explained-here = record {
-    conceded = refl;
-    lost = record {
-      gone = λ i. not (satisfied (decisions d) (rowOn d i .lits)) && isEmpty (remnant (decisions d) (rowOn d i .lits));
-      rows = refl;
-      each = given-up d (formed d well);
-      others = satisfiable d (formed d well);
-    };
-    foreseen = refl;
-    adds = refl;
-    sure = λ full k. lost-below d (decisions d) full (extends d (formed d well) full k);
-    least = λ full k. bound-below d (decisions d) full (extends d (formed d well) full k) (formed d well .named);
-  }
+  -- what is lost, by either bound
+  beyond-here : Beyond d (lostBeyond d (decisions d))
+  unfolding lostBeyond weightWhere
+  beyond-here =
+      record {
+        gone = λ i. not (satisfied (decisions d) (rowOn d i .lits)) && isEmpty (remnant (decisions d) (rowOn d i .lits));
+        rows = refl;
+        each = given-up d (formed d well);
+        others = satisfiable d (formed d well);
+      }
 
--- a bound is given of a well-formed desk alone
+  explained-here : Explained d choice (lossesBy choice d (decisions d))
+  explained-here =
+      let are = losses-are choice d (decisions d) in
+      record {
+        conceded = ap (λ (l : Losses). l .conceded) are;
+        lost = subst (Beyond d) (sym (ap (λ (l : Losses). l .lost) are)) beyond-here;
+        foreseen = ap (λ (l : Losses). l .foreseen) are;
+        adds = either-total choice d (decisions d);
+        sure = λ full k. rw (either-certain choice d (decisions d)) (lost-below d (decisions d) full (extends d (formed d well) full k));
+        least = λ full k.
+            let x = keeps-leaf d (formed d well) full k in
+            let below : boundBy choice d (decisions d) ≤ deskWeighs d (x .0 .truths) =
+            either-sound choice d (formed d well) .atMost (root d (formed d well)) (x .1) in
+            omega (arith, either-total choice d (decisions d), below, ap (deskWeighs d) (x .2));
+      }
+
 pub explained : LossesExplained
-unfolding bounded deskWhy
-explained d l e = by-form (wellFormed d) refl
-  where
-    by-form : (b : Bool) → wellFormed d ≡ b → Explained d l
-    by-form true w = let same : Bounded.Bound (lossesAt d (decisions d)) ≡ Bounded.Bound l = sym (bound-given d w) ∙ e in
-        let is : lossesAt d (decisions d) ≡ l = cc in subst (Explained d) is (explained-here d w)
-    by-form false w = let refused : Bounded.Refused BadDesk ≡ Bounded.Bound l = rw w at e in impossible (cc)
+explained d choice l e =
+    let w = bounded-well d choice l e in
+    subst (Explained d choice) (sym (w .1)) (explained-here d choice (w .0))

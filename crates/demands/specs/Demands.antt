@@ -7,6 +7,7 @@ use mathlib.Core.Bool.{true}
 use mathlib.Core.Logic.{_↔_}
 use lib.ListN.{length, take, drop}
 use lib.IntN.{ℤ}
+use Rattle.rules.specs.declared.Choice.{Choice}
 use Rattle.rules.specs.declared.Status.{Status}
 use Rattle.rules.specs.declared.Found.{Found}
 use Rattle.rules.specs.declared.Refusal.{Refusal}
@@ -23,7 +24,8 @@ use Rattle.rules.specs.Desk.{standing, decided, truths, deskWords, wellFormed, 
 use Rattle.rules.specs.Decide.{decideWhy, decideDesk}
 use Rattle.rules.specs.Rewrite.{rewriteWhy, rewriteDesk}
 use Rattle.rules.specs.TakeBack.{takeBackWhy, takeBackDesk}
-use Rattle.rules.specs.Bound.{lossesAt, total, bounded}
+use Rattle.rules.specs.Bound.{total}
+use Rattle.rules.specs.Choice.{lossesBy, bounded}
 use Rattle.rules.specs.Walk.{mostBudget, foundBy, walkIn, searched}
 use Rattle.rules.specs.Text.{tableText, writeWhy, written, writeOut}
 use Rattle.rules.specs.Reader.{textRead, readWords, readTable}
@@ -72,11 +74,14 @@ pub record Demand1 : Type 0 where
 
 pub record Demand2 : Type 0 where
   -- "A finished search gives the smallest weight .., and of those the first, true before false."
-  pub finished : (d : List ℕ) (budget : ℕ) (f : Found) → searched d budget ≡ Searched.Found f → f .status ≡ Status.Done → Finished d f
+  -- document 02, C-14: "Demand 2 holds under either [bound]; counts and stopped answers read from the one chosen."
+  pub finished : (d : List ℕ) (choice : Choice) (budget : ℕ) (f : Found) → searched d choice budget ≡ Searched.Found f → f .status ≡ Status.Done
+      → Finished d f
   -- "A stopped one says so, with the best reading that document 01's walk met by that count."
-  pub stopped : (d : List ℕ) (budget : ℕ) (f : Found) → searched d budget ≡ Searched.Found f → f .status ≡ Status.Stopped → Stopped d budget f
+  pub stopped : (d : List ℕ) (choice : Choice) (budget : ℕ) (f : Found) → searched d choice budget ≡ Searched.Found f → f .status ≡ Status.Stopped
+      → Stopped d choice budget f
   pub inOrder : (d : List ℕ) → wellFormed d ≡ true → InOrder d
-  pub stopRule : (d : List ℕ) (budget : ℕ) (f : Found) → searched d budget ≡ Searched.Found f → StopRule d budget f
+  pub stopRule : (d : List ℕ) (choice : Choice) (budget : ℕ) (f : Found) → searched d choice budget ≡ Searched.Found f → StopRule d choice budget f
   -- "A rewriting does just what its published rule says."
   pub rewritten : (d : List ℕ) (kind : ℕ) (named : List ℕ) → rewriteWhy d kind named ≡ Fine → Rewritten d kind named (rewriteDesk d kind named)
   -- and its table is complete: rows that fit a line are not refused with 14
@@ -114,12 +119,12 @@ pub record Kept (n : ℕ) (table : List ℕ) (c : ℕ) (d : List ℕ) (calls : L
   pub trueStand : truths after ≡ trueBy (standingCalls start calls)
   -- "words past it are never touched"
   pub untouched : drop (deskWords c) after ≡ drop (deskWords c) d
-  -- "The bound never exceeds the least weight of such a reading."
-  pub bounds : (full : ℕ) (l : Losses) → bounded after ≡ Bounded.Bound l → keeps after full ≡ true → total l ≤ weighs table full
+  -- "The bound never exceeds the least weight of such a reading." Neither of the two does.
+  pub bounds : (choice : Choice) (full : ℕ) (l : Losses) → bounded after choice ≡ Bounded.Bound l → keeps after full ≡ true → total l ≤ weighs table full
   -- no call of the run gave a 10, and neither do bound and search after it
   pub neverTen : NeverTen start calls
-  pub boundGiven : bounded after ≡ Bounded.Bound (lossesAt after (decisions after))
-  pub searchGiven : (budget : ℕ) → searched after budget ≡ Searched.Found (foundBy (walkIn after budget))
+  pub boundGiven : (choice : Choice) → bounded after choice ≡ Bounded.Bound (lossesBy choice after (decisions after))
+  pub searchGiven : (choice : Choice) (budget : ℕ) → searched after choice budget ≡ Searched.Found (foundBy (walkIn after choice budget))
 
 abbrev pub Demand3 : Type 0
 Demand3 = (n : ℕ) (table : List ℕ) (c : ℕ) (d : List ℕ) → loadWhy n table c d ≡ Fine → (calls : List Call)

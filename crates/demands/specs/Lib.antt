@@ -4,4 +4,5 @@ pub mod Rewritings
 pub mod Lines
 pub mod Competition
 pub mod Losses
+pub mod Bounds
 pub mod Demands

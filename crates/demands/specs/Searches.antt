@@ -1,4 +1,4 @@
--- Demand 2 of a search: what a finished answer owes, what a stopped one owes, and when it is the one or the other.
+-- Demand 2 of a search, by either bound: what a finished answer owes, what a stopped one owes, and when it is the one or the other.
 use Prim.Native.Nat.{ℕ, suc, _^_, _≤_, _<_}
 use mathlib.Core.Path.{_≡_}
 use mathlib.Core.List.{List, [], _∷_, _++_, List·Memᴰ}
@@ -8,6 +8,7 @@ use lib.ListN.{length, take}
 use Rattle.masks.specs.Masks.{has}
 use Rattle.rules.specs.declared.Part.{Part}
 use Rattle.rules.specs.declared.Status.{Status}
+use Rattle.rules.specs.declared.Choice.{Choice}
 use Rattle.rules.specs.declared.Best.{Best}
 use Rattle.rules.specs.declared.Found.{Found}
 use Rattle.rules.specs.declared.Searched.{Searched}
@@ -34,8 +35,8 @@ pub record Finished (d : List ℕ) (f : Found) : Type 0 where
   pub first : (other : ℕ) → keeps d other ≡ true → deskWeighs d other ≡ weight → (other ≡ reading) ⊎ TrueFirst reading other
 
 -- the full readings that the walk met by a count of nodes, visited and not cut, in its order
-abbrev pub metBy : List ℕ → ℕ → List Part
-metBy d budget = met (priceOf d) triedFirst budget (undecided (variables d) (decided d)) (decisions d) (atStart d)
+abbrev pub metBy : List ℕ → Choice → ℕ → List Part
+metBy d choice budget = met (priceOf choice d) triedFirst budget (undecided (variables d) (decided d)) (decisions d) (atStart d)
 
 -- the full readings at the leaves of the walk, in its order, whether the walk comes to them or cuts them
 abbrev pub readingsOf : List ℕ → List Part
@@ -57,20 +58,20 @@ pub data BestOf (d : List ℕ) (readings : List Part) : Best → Type 0 where
 
 -- "the best reading that document 01's walk met by that count", or none if it met none; and the best of all the first n readings in the walk's order, those
 -- in front of the node that was due, whether the walk met them or cut them unseen. Some are left.
-pub record Stopped (d : List ℕ) (budget : ℕ) (f : Found) : Type 0 where
+pub record Stopped (d : List ℕ) (choice : Choice) (budget : ℕ) (f : Found) : Type 0 where
   pub count : f .nodes ≡ budget
-  pub ofThoseMet : BestOf d (metBy d budget) (f .best)
+  pub ofThoseMet : BestOf d (metBy d choice budget) (f .best)
   pub n : ℕ
   pub someLeft : n < length (readingsOf d)
   pub best : BestOf d (take n (readingsOf d)) (f .best)
 
 -- "A node is entered only while the count is below the budget; if one was due and couldn't be, the search is stopped, else done."
--- That a node was due is seen by searching the same desk with a larger budget, g: it is entered then.
-pub record StopRule (d : List ℕ) (budget : ℕ) (f : Found) : Type 0 where
+-- That a node was due is seen by searching the same desk by the same bound with a larger budget, g: it is entered then.
+pub record StopRule (d : List ℕ) (choice : Choice) (budget : ℕ) (f : Found) : Type 0 where
   pub within : f .nodes ≤ budget
-  pub stoppedWhen : (more : ℕ) (g : Found) → budget < more → searched d more ≡ Searched.Found g → (f .status ≡ Status.Stopped) ↔ (budget < g .nodes)
-  pub doneWhen : (more : ℕ) (g : Found) → budget < more → searched d more ≡ Searched.Found g → (f .status ≡ Status.Done) ↔ (g .nodes ≤ budget)
+  pub stoppedWhen : (more : ℕ) (g : Found) → budget < more → searched d choice more ≡ Searched.Found g → (f .status ≡ Status.Stopped) ↔ (budget < g .nodes)
+  pub doneWhen : (more : ℕ) (g : Found) → budget < more → searched d choice more ≡ Searched.Found g → (f .status ≡ Status.Done) ↔ (g .nodes ≤ budget)
   -- a search that is done is the same with any larger budget
-  pub same : (more : ℕ) (g : Found) → budget ≤ more → searched d more ≡ Searched.Found g → f .status ≡ Status.Done → g ≡ f
+  pub same : (more : ℕ) (g : Found) → budget ≤ more → searched d choice more ≡ Searched.Found g → f .status ≡ Status.Done → g ≡ f
   -- with u variables undecided there are fewer than 2 ^ (u + 1) nodes, so that with such a budget it is done
   pub few : f .nodes < 2 ^ suc (length (undecided (variables d) (decided d)))

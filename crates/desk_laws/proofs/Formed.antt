@@ -5,11 +5,13 @@ use Prim.Native.Nat.{ℕ, suc, _+_, _≤_, _<_, _^_}
 use mathlib.Core.Path.{_≡_}
 use mathlib.Core.List.{List}
 use mathlib.Core.Bool.{Bool, true, false, not, _&&_, and-eq-true-iff}
+use native.Mathlib.Nat.{lt-of-lt-of-le}
 use native.Mathlib.Omega.{arith}
 use borrow.Author.Tests.{leb-true, le-leb, not-true, not-false}
 use lib.ListN.{length}
 use lib.Bits.{bitAnd}
 use lib.Dec.{leb}
+use lib.Pow.{pow-mono}
 use Rattle.masks.specs.Masks.{none, without, below}
 use Rattle.masks.proofs.Choice.{and-left, and-right, both, or-none}
 use Rattle.masks.proofs.Bits.{below-lt, lt-below}
@@ -17,6 +19,7 @@ use Rattle.masks.proofs.Sets.{none-zero, zero-none}
 use Rattle.masks.proofs.Sums.{every-at, every-true}
 use Rattle.literals.specs.declared.Lits.{Lits}
 use Rattle.literals.specs.Literal.{mostVariables}
+use Rattle.literals.proofs.TwoMasks.{Held}
 use Rattle.rules.specs.Table.{rowWords, mostRows, mostWeight, badLits}
 use Rattle.rules.specs.Desk.{headWords, mostCapacity, mostSteps, variables, inUse, capacity, standing, decided, truths, loaded, rowPlace, deskWords}
 use Rattle.rules.specs.Desk.{rowOn, weightOn, reaches, inLimits, rowsSound, weightFits, masksNest, wellFormed}
@@ -54,6 +57,10 @@ sound-of n l e =
       positives = below-lt (l .positive) n (and-left (below (l .positive) n) (below (l .negative) n) lows);
       negatives = below-lt (l .negative) n (and-right (below (l .positive) n) (below (l .negative) n) lows);
     }
+
+-- masks of 64 bits hold it
+pub sound-held : {n : ℕ} {l : Lits} → n ≤ 64 → Sound n l → Held l
+sound-held h s = record { positives = lt-of-lt-of-le (s .positives) (pow-mono h); negatives = lt-of-lt-of-le (s .negatives) (pow-mono h) }
 
 pub of-sound : {n : ℕ} {l : Lits} → Sound n l → badLits n l ≡ false
 unfolding badLits

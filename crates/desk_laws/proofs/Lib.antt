@@ -5,3 +5,4 @@ pub mod Weights
 pub mod Readings
 pub mod Verdicts
 pub mod Alike
+pub mod Readable

@@ -5,6 +5,7 @@ use mathlib.Core.Bool.{true}
 use mathlib.Core.List.{List}
 use native.Mathlib.Omega.{arith}
 use lib.ListN.{length, take, drop, replicate}
+use Rattle.rules.specs.declared.Choice.{Choice}
 use Rattle.rules.specs.declared.Refusal.{Refusal}
 use Rattle.rules.specs.declared.Judged.{Judged}
 use Rattle.rules.specs.declared.Judged.the-variants.{Fine, Refused}
@@ -25,8 +26,8 @@ use Rattle.text_laws.proofs.Matched.{matched}
 use Rattle.walk_laws.proofs.Alike.{losses-alike, walk-alike}
 use Rattle.desk.specs.Front.{frontWhy, frontStep, frontDesk}
 use Rattle.desk.proofs.Fronts.{front-count}
-use Rattle.bound.specs.Units.{Readable}
-use Rattle.bound.proofs.Fits.{readable, readable-front}
+use Rattle.desk_laws.specs.Readable.{Readable}
+use Rattle.desk_laws.proofs.Readable.{readable, readable-front}
 
 module _ (n b m : ℕ) (words : List ℕ) (long : length words ≡ headWords + rowWords * m) where
   pub not-loaded : (j : Judged) (r : Refusal) → j ≡ frontWhy n m words → j ≡ Refused r
@@ -55,7 +56,7 @@ module _ (n b m : ℕ) (words : List ℕ) (long : length words ≡ headWords + r
     pub front-readable : Readable after
     front-readable = rw front (readable-front (readable _ formed-whole) (rowPlace m) ends within)
 
-    pub loaded : (p : Part) (root : Losses) (found : Found) → p ≡ decisions after → root ≡ lossesAt after p → found ≡ foundBy (walkIn after b)
+    pub loaded : (p : Part) (root : Losses) (found : Found) → p ≡ decisions after → root ≡ lossesAt after p → found ≡ foundBy (walkIn after Choice.Units b)
         → Outcome.Searched n root found ≡ tableOutcome n b m (drop headWords words)
     unfolding frontWhy
     loaded p root found is e g =
@@ -64,6 +65,6 @@ module _ (n b m : ℕ) (words : List ℕ) (long : length words ≡ headWords + r
         let alike = front-alike d (rowPlace m) ends in
         let rooted : root ≡ lossesAt d (decisions d) =
         e ∙ ap (lossesAt after) is ∙ ap (λ (x : List ℕ). lossesAt x (decisions x)) front ∙ losses-alike alike in
-        let same : found ≡ foundBy (walkIn d b) =
-        g ∙ ap (λ (x : List ℕ). foundBy (walkIn x b)) front ∙ ap foundBy (walk-alike alike b) in
+        let same : found ≡ foundBy (walkIn d Choice.Units b) =
+        g ∙ ap (λ (x : List ℕ). foundBy (walkIn x Choice.Units b)) front ∙ ap foundBy (walk-alike alike b) in
         rw (rooted, same, f)

@@ -7,6 +7,7 @@ ghost use Rattle.rules.specs.Desk.{headWords};
 ghost use Rattle.rules.specs.Program.{tableOutcome};
 use bound::inner::decisions;
 use bound::inner::losses_at;
+use rules::Choice;
 use rules::Desk;
 use rules::Judged;
 use rules::Outcome;
@@ -22,7 +23,7 @@ fn search_rows(variables: u64, budget: u32, rows: u64, words: &mut [u64]) -> Out
         Judged::Fine => {
             let p = decisions(words);
             let root = losses_at(words, p);
-            let found = walk::inner::found_on(words, budget);
+            let found = walk::inner::found_on(words, Choice::Units, budget, &mut []);
             Outcome::Searched {
                 variables,
                 root,

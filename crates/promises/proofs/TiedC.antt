@@ -36,7 +36,9 @@ module _ {M : Type 1} (𝓤 : URA M) (H : Heap 𝓤) (A : Atoms 𝓤) (memory : 
         rewrite = tied 𝓤 H A rewrite-met (λ κs a. (tt, refl)) refl (λ κs a g x ws. two-facts 𝓤 _ _ _ (λ p q. (p, ap (λ (l : List ℕ). (l, (tt, (tt, tt)))) q)));
         takeBack = tied 𝓤 H A take-back-met (λ κs a. (tt, refl)) refl (λ κs a g x ws. two-facts 𝓤 _ _ _ (λ p q. (p, ap (λ (l : List ℕ). (l, tt)) q)));
         bound = bound-tied 𝓤 H A memory run;
-        search = tied 𝓤 H A search-met (λ κs a. (tt, refl)) refl (λ κs a g x ws. two-facts 𝓤 _ _ _ (λ p q. (p, ap (λ (l : List ℕ). (tt, (tt, (l, tt)))) q)));
+        search =
+            tied 𝓤 H A search-met (λ κs a. (tt, refl)) refl
+            (λ κs a g x ws. two-facts 𝓤 _ _ _ (λ p q. (p, ap (λ (l : List ℕ). (tt, (tt, (tt, (l, tt))))) q)));
         read =
             tied 𝓤 H A read-met (λ κs a. (tt, refl)) refl
             (λ κs a g x ws. three-facts 𝓤 _ _ _ _ (λ p q r. (p, ap₂ (λ (l : List ℕ) (m : List ℕ). (tt, (l, (m, tt)))) q r)));

@@ -8,6 +8,7 @@ use prog.Routine.{Routine}
 use prog.Wp.{Heap}
 use Rattle.demands.specs.Demands.{Demand1, Demand2, Demand3}
 use Rattle.demands.specs.Losses.{LossesExplained}
+use Rattle.demands.specs.Bounds.{BoundsCompared}
 use Rattle.promises.specs.Tied.{TiedInCode}
 use Rattle.promises.specs.TiedC.{TiedInC}
 
@@ -20,5 +21,6 @@ pub record Promises : Type 2 where
   pub demand1 : Demand1
   pub demand2 : Demand2
   pub demand3 : Demand3
-  -- document 02, C-12: where the bound comes from
+  -- document 02, C-12: where the bound comes from; C-14: by either bound, and one beside the other
   pub losses : LossesExplained
+  pub bounds : BoundsCompared

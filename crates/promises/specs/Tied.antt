@@ -27,7 +27,7 @@ use Rattle.rules.specs.Desk.{loadWhy, loadDesk, wellFormed as isWellFormed}
 use Rattle.rules.specs.Decide.{decideWhy, decideDesk}
 use Rattle.rules.specs.Rewrite.{rewriteWhy, rewriteDesk}
 use Rattle.rules.specs.TakeBack.{takeBackWhy, takeBackDesk}
-use Rattle.rules.specs.Bound.{bounded}
+use Rattle.rules.specs.Choice.{bounded}
 use Rattle.rules.specs.Walk.{searched}
 use Rattle.rules.specs.Text.{written, writeOut}
 use Rattle.rules.specs.Reader.{textRead, readTable}
@@ -52,9 +52,9 @@ pub record TiedInCode {M : Type 1} (𝓤 : URA M) (H : Heap 𝓤) (A : Atoms �
   pub takeBack : Tied 𝓤 H A takeBack.ended (takeBack.Statement.statement M) (takeBack.spec 𝓤 H A memory run) (takeBack.clauses 𝓤 H A memory run)
       (λ κs a. takeBackWhy (now (a .0))) (λ κs a. (takeBackDesk (now (a .0)), tt))
   pub bound : Tied 𝓤 H A bound.ended (bound.Statement.statement M) (bound.spec 𝓤 H A memory run) (bound.clauses 𝓤 H A memory run)
-      (λ κs a. bounded (now (a .0))) (λ κs a. (tt, tt))
+      (λ κs a. bounded (now (a .0)) (a .1 .0)) (λ κs a. (tt, (tt, tt)))
   pub search : Tied 𝓤 H A search.ended (search.Statement.statement M) (search.spec 𝓤 H A memory run) (search.clauses 𝓤 H A memory run)
-      (λ κs a. searched (now (a .0)) (a .1 .0)) (λ κs a. (tt, (tt, tt)))
+      (λ κs a. searched (now (a .0)) (a .1 .0) (a .1 .1 .0)) (λ κs a. (tt, (tt, (tt, tt))))
   pub read : Tied 𝓤 H A read.ended (read.Statement.statement M) (read.spec 𝓤 H A memory run) (read.clauses 𝓤 H A memory run)
       (λ κs a. textRead (now (a .0)) (length (now (a .1 .0)))) (λ κs a. (tt, (readTable (now (a .0)) (now (a .1 .0)), tt)))
   pub write : Tied 𝓤 H A write.ended (write.Statement.statement M) (write.spec 𝓤 H A memory run) (write.clauses 𝓤 H A memory run)

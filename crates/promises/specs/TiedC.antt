@@ -28,7 +28,7 @@ use Rattle.rules.specs.Desk.{loadWhy, loadDesk, wellFormed as isWellFormed}
 use Rattle.rules.specs.Decide.{decideWhy, decideDesk}
 use Rattle.rules.specs.Rewrite.{rewriteWhy, rewriteDesk}
 use Rattle.rules.specs.TakeBack.{takeBackWhy, takeBackDesk}
-use Rattle.rules.specs.Bound.{bounded}
+use Rattle.rules.specs.Choice.{choiceOf, bounded}
 use Rattle.rules.specs.Walk.{searched}
 use Rattle.rules.specs.Text.{written, writeOut}
 use Rattle.rules.specs.Reader.{textRead, readTable}
@@ -53,9 +53,11 @@ pub record TiedInC {M : Type 1} (𝓤 : URA M) (H : Heap 𝓤) (A : Atoms 𝓤) 
   pub takeBack : Tied 𝓤 H A takeBack.ended (takeBack.Statement.statement M) (takeBack.spec 𝓤 H A memory run) (takeBack.clauses 𝓤 H A memory run)
       (λ κs a. told (takeBackWhy (now (a .0)))) (λ κs a. (takeBackDesk (now (a .0)), tt))
   pub bound : Tied 𝓤 H A bound.ended (bound.Statement.statement M) (bound.spec 𝓤 H A memory run) (bound.clauses 𝓤 H A memory run)
-      (λ κs a. told (byBounded (bounded (now (a .0))))) (λ κs a. (tt, (boundOut (bounded (now (a .0))) (now (a .1 .0)), tt)))
+      (λ κs a. told (byBounded (bounded (now (a .0)) (choiceOf (a .1 .0)))))
+      (λ κs a. (tt, (tt, (boundOut (bounded (now (a .0)) (choiceOf (a .1 .0))) (now (a .1 .1 .0)), tt))))
   pub search : Tied 𝓤 H A search.ended (search.Statement.statement M) (search.spec 𝓤 H A memory run) (search.clauses 𝓤 H A memory run)
-      (λ κs a. told (bySearched (searched (now (a .0)) (a .1 .0)))) (λ κs a. (tt, (tt, (foundOut (searched (now (a .0)) (a .1 .0)) (now (a .1 .1 .0)), tt))))
+      (λ κs a. told (bySearched (searched (now (a .0)) (choiceOf (a .1 .0)) (a .1 .1 .0))))
+      (λ κs a. (tt, (tt, (tt, (foundOut (searched (now (a .0)) (choiceOf (a .1 .0)) (a .1 .1 .0)) (now (a .1 .1 .1 .0)), tt)))))
   pub read : Tied 𝓤 H A read.ended (read.Statement.statement M) (read.spec 𝓤 H A memory run) (read.clauses 𝓤 H A memory run)
       (λ κs a. told (byTextRead (textRead (now (a .0)) (length (now (a .1 .0))))))
       (λ κs a. (tt, (readTable (now (a .0)) (now (a .1 .0)), (headOut (textRead (now (a .0)) (length (now (a .1 .0)))) (now (a .1 .1 .0)), tt))))

@@ -6,7 +6,8 @@ use Rattle.masks.specs.Sums.{sum, every, smallest}
 use Rattle.masks.specs.Words.{zeroed}
 use Rattle.literals.specs.Literal.{size, isPositive, isLiteral, opposite, bitOf, litsOf, offered}
 use Rattle.literals.specs.Lits.{noLits, negatedLits, together, less, variablesOf, isEmpty, sameLits, isOne}
-use Rattle.rules.specs.Bound.{weightWhere, lostBeyond, lost, unitWeight, foreseenAt, foreseen, bound, lossesAt, deskWhy, bounded}
+use Rattle.rules.specs.Bound.{weightWhere, lostBeyond, lost, unitWeight, foreseenAt, foreseen, bound, lossesAt, deskWhy}
+use Rattle.rules.specs.Choice.{bounded}
 use Rattle.rules.specs.Calls.{afterCall, afterCalls}
 use Rattle.rules.specs.Decide.{entered, badLiteral, decideWhy, decisionEntry, decideStep, decideDesk}
 use Rattle.rules.specs.Rewrite.{rewriteDesk}

@@ -1,4 +1,5 @@
 pub mod Examples
+pub mod GroupExamples
 pub mod Judging
 pub mod Admissible
 pub mod Mistakes

@@ -9,12 +9,10 @@ use Rattle.literals.specs.Lits.{isEmpty, sameLits}
 use Rattle.rules.specs.declared.Row.{Row}
 use Rattle.rules.specs.declared.Part.{Part}
 use Rattle.rules.specs.declared.Losses.{Losses}
-use Rattle.rules.specs.declared.Bounded.{Bounded}
 use Rattle.rules.specs.declared.Refusal.the-variants.{BadDesk}
 use Rattle.rules.specs.declared.Judged.{Judged}
-use Rattle.rules.specs.declared.Judged.the-variants.{Fine, Refused}
 use Rattle.rules.specs.Refusals.{_when_, firstDue}
-use Rattle.rules.specs.Desk.{variables, inUse, conceded, rowOn, wellFormed, decisions, satisfied, remnant}
+use Rattle.rules.specs.Desk.{variables, inUse, conceded, rowOn, wellFormed, satisfied, remnant}
 
 -- a row's weight where the row is unsatisfied and its remnant passes a test
 unfoldable pub weightWhere : (Lits → Bool) → Part → Row → ℕ
@@ -60,11 +58,3 @@ total l = certain l + l .foreseen
 -- Bound and search: 10.
 unfoldable pub deskWhy : List ℕ → Judged
 deskWhy d = firstDue (BadDesk when not (wellFormed d) ∷ [])
-
-abbrev pub boundedAs : Judged → Losses → Bounded
-boundedAs Fine l = Bounded.Bound l
-boundedAs (Refused r) l = Bounded.Refused r
-
--- the bound of a desk, under its own decisions
-unfoldable pub bounded : List ℕ → Bounded
-bounded d = boundedAs (deskWhy d) (lossesAt d (decisions d))

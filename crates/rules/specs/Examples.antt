@@ -11,12 +11,13 @@ use Rattle.literals.specs.declared.Lits.{Lits}
 use Rattle.literals.specs.Lits.{noLits, together}
 use Rattle.literals.specs.Literal.{litsOf}
 use Rattle.rules.specs.declared.Bounded.{Bounded}
+use Rattle.rules.specs.declared.Choice.{Choice}
 use Rattle.rules.specs.declared.Judged.{Judged}
 use Rattle.rules.specs.declared.Judged.the-variants.{Fine, Refused}
 use Rattle.rules.specs.Refusals.{numberOf, placeOf}
 use Rattle.rules.specs.Table.{weighs, rowWordsOf}
 use Rattle.rules.specs.Desk.{inUse, conceded, rowOn, deskWords, loadWhy, loadStep, deskWeighs}
-use Rattle.rules.specs.Bound.{bounded}
+use Rattle.rules.specs.Choice.{bounded}
 use Rattle.rules.specs.Text.{bytes}
 use Rattle.rules.specs.Program.{answer}
 use Rattle.rules.specs.Calls.{decide, rewrite, takeBack, callWhy, afterCall, afterCalls}
@@ -115,7 +116,7 @@ examples =
     (answer (bytes "vars=1\nbudget=100\nrows=2\nweight=3\nlits=1\nweight=2\nlits=-1\n"))
     (bytes "status=done\nweight=2\nnodes=3\nreading=1\nconceded=0\nlost=0\nforeseen=2\n")
     ∷ example "P2: bound"
-    (boundNumbers (bounded (desk 1 (row (x 1 ∷ []) 3 ++ row (not-x 1 ∷ []) 2) 2)))
+    (boundNumbers (bounded (desk 1 (row (x 1 ∷ []) 3 ++ row (not-x 1 ∷ []) 2) 2) Choice.Units))
     (0 ∷ 0 ∷ 2 ∷ [])
     ∷ example "P3"
     (answer (bytes "vars=1\nbudget=100\nrows=2\nweight=4\nlits=1\nweight=4\nlits=-1\n"))
@@ -145,8 +146,8 @@ examples =
     (weighs p5 0 ∷ deskWeighs (afterCall (desk 2 p5 4) (rewrite 3 (0 ∷ 2 ∷ 1 ∷ []))) 0 ∷ [])
     (8 ∷ 8 ∷ [])
     ∷ example "P5: the bound after the chain: 2 conceded; with x1 false, 1 more lost"
-    (boundNumbers (bounded (afterCall (desk 2 p5 4) (rewrite 3 (0 ∷ 2 ∷ 1 ∷ []))))
-    ++ boundNumbers (bounded (afterCalls (desk 2 p5 4) (rewrite 3 (0 ∷ 2 ∷ 1 ∷ []) ∷ decide (negsuc 0) ∷ []))))
+    (boundNumbers (bounded (afterCall (desk 2 p5 4) (rewrite 3 (0 ∷ 2 ∷ 1 ∷ []))) Choice.Units)
+    ++ boundNumbers (bounded (afterCalls (desk 2 p5 4) (rewrite 3 (0 ∷ 2 ∷ 1 ∷ []) ∷ decide (negsuc 0) ∷ [])) Choice.Units))
     (2 ∷ 0 ∷ 0 ∷ 2 ∷ 1 ∷ 0 ∷ [])
     ∷ example "P6: fork concedes 1, adds (1,-2,-3) and (-1,2,3)"
     (account (afterCall (desk 3 p6 6) (rewrite 4 (0 ∷ 1 ∷ 2 ∷ 3 ∷ []))))

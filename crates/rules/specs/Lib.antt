@@ -6,6 +6,8 @@ pub mod Steps
 pub mod Rewrite
 pub mod TakeBack
 pub mod Bound
+pub mod Groups
+pub mod Choice
 pub mod Walk
 pub mod Text
 pub mod Reader
@@ -17,3 +19,4 @@ pub mod Figures
 pub mod Calls
 pub mod Examples
 pub mod Further
+pub mod GroupExamples

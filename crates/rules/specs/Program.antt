@@ -6,6 +6,7 @@ use lib.ListN.{length, replicate}
 use lib.Dec.{ltb}
 use Rattle.masks.specs.Masks.{without}
 use Rattle.literals.specs.declared.Lits.{Lits}
+use Rattle.rules.specs.declared.Choice.{Choice}
 use Rattle.rules.specs.declared.Refusal.{Refusal}
 use Rattle.rules.specs.declared.Refusal.the-variants.{InputTooLong}
 use Rattle.rules.specs.declared.Judged.{Judged}
@@ -20,7 +21,7 @@ use Rattle.rules.specs.declared.Written.{Written}
 use Rattle.rules.specs.Refusals.{numberOf, placeOf}
 use Rattle.rules.specs.Table.{rowWords, mostRows}
 use Rattle.rules.specs.Desk.{deskWords, loadWhy, loadStep, decisions}
-use Rattle.rules.specs.Bound.{lossesAt}
+use Rattle.rules.specs.Choice.{lossesBy}
 use Rattle.rules.specs.Walk.{walkIn, foundBy}
 use Rattle.rules.specs.Text.{bytes, numberText, line, litsText, textWhy, textWritten, textOut}
 use Rattle.rules.specs.Reader.{textRead, readWords}
@@ -76,12 +77,13 @@ abbrev pub outcomeAs : Judged → Outcome → Outcome
 outcomeAs Fine o = o
 outcomeAs (Refused r) o = Outcome.Refused r
 
--- what a table of m rows comes to, whatever text it was read from: the losses of that desk and its search, or load's refusal
+-- what a table of m rows comes to, whatever text it was read from: the losses of that desk and its search, or load's refusal. Of the two bounds
+-- "the program [chooses] the old one".
 abbrev pub tableOutcome : ℕ → ℕ → ℕ → List ℕ → Outcome
 tableOutcome variables budget m table =
     let d = programDesk variables m table in
     outcomeAs (loadWhy variables table m (replicate (deskWords m) 0))
-    (Outcome.Searched variables (lossesAt d (decisions d)) (foundBy (walkIn d budget)))
+    (Outcome.Searched variables (lossesBy Choice.Units d (decisions d)) (foundBy (walkIn d Choice.Units budget)))
 
 abbrev pub readOutcome : List ℕ → TextRead → Outcome
 readOutcome table (TextRead.Table variables budget m) = tableOutcome variables budget m table

@@ -6,6 +6,7 @@ use lib.Bits.{bitOr}
 use lib.Dec.{leb, ltb}
 use Rattle.masks.specs.Masks.{has, single}
 use Rattle.rules.specs.declared.Part.{Part}
+use Rattle.rules.specs.declared.Choice.{Choice}
 use Rattle.rules.specs.declared.Walked.{Walked}
 use Rattle.rules.specs.declared.Status.{Status}
 use Rattle.rules.specs.declared.Best.{Best}
@@ -14,7 +15,8 @@ use Rattle.rules.specs.declared.Searched.{Searched}
 use Rattle.rules.specs.declared.Judged.{Judged}
 use Rattle.rules.specs.declared.Judged.the-variants.{Fine, Refused}
 use Rattle.rules.specs.Desk.{variables, decided, weightOn, decisions}
-use Rattle.rules.specs.Bound.{bound, deskWhy}
+use Rattle.rules.specs.Bound.{deskWhy}
+use Rattle.rules.specs.Choice.{boundBy}
 
 -- "a 32-bit number, 0 to 4,294,967,295"
 abbrev pub mostBudget : ℕ
@@ -68,16 +70,16 @@ atStart d = walked 0 (weightOn d + 1) false 0 false
 unfoldable pub walkOf : (Part → ℕ) → (ℕ → Bool) → List ℕ → ℕ → Walked
 walkOf bound first d budget = walk bound first budget (undecided (variables d) (decided d)) (decisions d) (atStart d)
 
--- the price of a node, at which it is cut: its bound; and the value that is tried first: "tried true, then false"
-abbrev pub priceOf : List ℕ → Part → ℕ
-priceOf d = bound d
+-- the price of a node, at which it is cut: its bound, by the one chosen; and the value that is tried first: "tried true, then false"
+abbrev pub priceOf : Choice → List ℕ → Part → ℕ
+priceOf choice d = boundBy choice d
 
 abbrev pub triedFirst : ℕ → Bool
 triedFirst v = true
 
 -- the walk of a search
-abbrev pub walkIn : List ℕ → ℕ → Walked
-walkIn d budget = walkOf (priceOf d) triedFirst d budget
+abbrev pub walkIn : List ℕ → Choice → ℕ → Walked
+walkIn d choice budget = walkOf (priceOf choice d) triedFirst d budget
 
 abbrev pub statusOf : Bool → Status
 statusOf true = Status.Stopped
@@ -95,5 +97,5 @@ searchedAs Fine f = Searched.Found f
 searchedAs (Refused r) f = Searched.Refused r
 
 -- the search, or the refusal
-unfoldable pub searched : List ℕ → ℕ → Searched
-searched d budget = searchedAs (deskWhy d) (foundBy (walkIn d budget))
+unfoldable pub searched : List ℕ → Choice → ℕ → Searched
+searched d choice budget = searchedAs (deskWhy d) (foundBy (walkIn d choice budget))

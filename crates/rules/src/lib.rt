@@ -132,6 +132,12 @@ pub struct Losses {
     pub foreseen: u64,
 }
 
+// Which bound: document 01's, by the units that clash, or the bound by groups.
+pub enum Choice {
+    Units,
+    Groups,
+}
+
 // The bound of a desk, or why there is none.
 pub enum Bounded {
     Bound(Losses),

@@ -27,11 +27,11 @@ use Rattle.rules.specs.Rewrite.{shows, lit, links, compensating, clash as meet,
 use Rattle.rules.specs.Steps.{fewest, most, fewerAdded, concedes, countFits}
 use Rattle.rules.specs.Rewrite.{merges, shifts, chains, forks, fits, gives}
 use Rattle.rules.specs.Steps.{stored, empties}
-use Rattle.desk_laws.proofs.Formed.{Sound}
+use Rattle.desk_laws.proofs.Formed.{Sound, sound-held}
 use Rattle.desk_laws.proofs.Weights.{missed}
 use Rattle.step_laws.proofs.Balance.{total}
 use Rattle.desk_laws.proofs.Readings.{one-alone}
-use Rattle.step_laws.proofs.Sounds.{sound-held, none-sound, negated-sound, less-sound, apart-sound, together-sound, one-some, together-some}
+use Rattle.step_laws.proofs.Sounds.{none-sound, negated-sound, less-sound, apart-sound, together-sound, one-some, together-some}
 use Rattle.step_laws.proofs.Sounds.{shows-facts, Each, each-append, empties-append, stored-count}
 use Rattle.step_laws.proofs.Linked.{lit-sound, links-before, links-one, links-alone, links-apart, telescoped, compensating-sound}
 use Rattle.step_laws.proofs.Linked.{compensating-full, compensating-count}

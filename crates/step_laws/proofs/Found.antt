@@ -29,8 +29,8 @@ use Rattle.literals.proofs.OneLiteral.{one-lits}
 use Rattle.rules.specs.Rewrite.{shows, lit, links, clash as meet, apartFrom, forked, merges, shifts, chains, forks, fits, gives}
 use Rattle.rules.specs.Steps.{fewest, most, countFits}
 use Rattle.step_laws.specs.StepTable.{Pair, Linked, Fits, merge, shift, chain, fork}
-use Rattle.desk_laws.proofs.Formed.{Sound}
-use Rattle.step_laws.proofs.Sounds.{sound-held, less-sound, shows-facts}
+use Rattle.desk_laws.proofs.Formed.{Sound, sound-held}
+use Rattle.step_laws.proofs.Sounds.{less-sound, shows-facts}
 use Rattle.step_laws.proofs.Linked.{first-lit, lit-sound, links-before, links-one}
 use Rattle.step_laws.proofs.Merged.{meet-held, split-positive, split-negative}
 use Rattle.step_laws.proofs.ByKind.{by-kind, counted}

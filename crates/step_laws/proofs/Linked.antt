@@ -18,11 +18,11 @@ use Rattle.literals.proofs.TwoMasks.{variables-negated}
 use Rattle.rules.specs.Table.{holds}
 use Rattle.rules.specs.Rewrite.{shows, lit, links, compensating}
 use Rattle.rules.specs.Steps.{empties}
-use Rattle.desk_laws.proofs.Formed.{Sound}
+use Rattle.desk_laws.proofs.Formed.{Sound, sound-held}
 use Rattle.desk_laws.proofs.Weights.{missed}
 use Rattle.step_laws.proofs.Balance.{total}
 use Rattle.desk_laws.proofs.Readings.{Alone, one-alone, holds-together, holds-negated}
-use Rattle.step_laws.proofs.Sounds.{sound-held, less-sound, negated-sound, together-sound, one-some, together-some, Shows, shows-facts, Each}
+use Rattle.step_laws.proofs.Sounds.{less-sound, negated-sound, together-sound, one-some, together-some, Shows, shows-facts, Each}
 use Rattle.step_laws.proofs.Sounds.{each-append, total-append, empties-append}
 
 -- rows missed, by what holds of the literals: (not a, b) and a against (a, not b) and b

@@ -1,16 +1,16 @@
 -- Sets of literals that stay sound: what is taken out of a sound one, its negation, two on variables apart, and one literal alone.
 -- And lists of rows given: those stored, those empty, and what a reading misses of them.
-use Prim.Native.Nat.{ℕ, zero, suc, _+_, _≤_, _<_}
+use Prim.Native.Nat.{ℕ, zero, suc, _+_, _<_}
 use mathlib.Core.Path.{_≡_, refl, sym, ap, _∙_}
 use mathlib.Core.Logic.{_⊎_, inl, inr, ⊎-elim}
 use mathlib.Core.Bool.{Bool, true, false, not, _&&_}
 use mathlib.Core.List.{List, [], _∷_, _++_}
-use native.Mathlib.Nat.{lt-of-lt-of-le, le-of-suc-le-suc}
+use native.Mathlib.Nat.{le-of-suc-le-suc}
 use native.Mathlib.Omega.{arith}
 use borrow.Author.Tests.{eqb-true}
 use lib.Bits.{bitAnd, bitOr, and-comm, or-lt, or-comm}
 use lib.ListN.{length, getD}
-use lib.Pow.{pow-pos, pow-mono}
+use lib.Pow.{pow-pos}
 use Rattle.masks.specs.Masks.{has, none, without, count}
 use Rattle.masks.proofs.Choice.{cases, clash, not-so, and-left, and-right, or-cases}
 use Rattle.masks.proofs.Bits.{has-or, has-without}
@@ -18,7 +18,7 @@ use Rattle.masks.proofs.Sets.{apart, apart-of, or-empty, without-lt, zero-none}
 use Rattle.masks.proofs.Counts.{count-zero}
 use Rattle.literals.specs.declared.Lits.{Lits}
 use Rattle.literals.specs.Lits.{noLits, negatedLits, together, less, variablesOf, isEmpty, sameLits, isOne}
-use Rattle.literals.proofs.TwoMasks.{Held, same-eq, empty-masks, masks-empty, empty-none}
+use Rattle.literals.proofs.TwoMasks.{same-eq, empty-masks, masks-empty, empty-none}
 use Rattle.rules.specs.Rewrite.{shows, apartFrom}
 use Rattle.rules.specs.Steps.{stored, empties}
 use Rattle.desk_laws.proofs.Formed.{Sound}
@@ -27,9 +27,6 @@ use Rattle.step_laws.proofs.Balance.{total}
 use Rattle.desk_laws.proofs.Readings.{holds-none}
 
 -- ---- sound sets
-
-pub sound-held : {n : ℕ} {l : Lits} → n ≤ 64 → Sound n l → Held l
-sound-held h s = record { positives = lt-of-lt-of-le (s .positives) (pow-mono h); negatives = lt-of-lt-of-le (s .negatives) (pow-mono h) }
 
 pub none-sound : (n : ℕ) → Sound n noLits
 unfolding noLits

@@ -9,6 +9,7 @@ use lib.IntN.{ℤ}
 use lib.Dec.{eqb, leb, ltb}
 use lib.ListN.{length}
 use Rattle.literals.specs.Literal.{mostVariables}
+use Rattle.rules.specs.declared.Choice.{Choice}
 use Rattle.rules.specs.declared.Refusal.{Refusal}
 use Rattle.rules.specs.declared.Refusal.the-variants.{TooManyVariables, BadTable, BadCapacity, NoRoom, BadLiterals, BadWeight, SumTooLarge}
 use Rattle.rules.specs.declared.Refusal.the-variants.{BadReading, BadBudget, BadDesk, TooManySteps, BadLiteral, BadNaming, BadFit, DeskFull}
@@ -29,7 +30,8 @@ use Rattle.rules.specs.Decide.{badLiteral, decideWhy}
 use Rattle.rules.specs.Rewrite.{wellFitted, given, rewriteWhy}
 use Rattle.rules.specs.Steps.{wellNamed, stored}
 use Rattle.rules.specs.TakeBack.{badLast, takeBackWhy}
-use Rattle.rules.specs.Bound.{lossesAt, deskWhy, boundedAs, bounded}
+use Rattle.rules.specs.Bound.{deskWhy}
+use Rattle.rules.specs.Choice.{lossesBy, boundedAs, bounded}
 use Rattle.rules.specs.Walk.{mostBudget, walkIn, foundBy, searchedAs, searched}
 use Rattle.rules.specs.Text.{bytes, tableText, textWhy, writtenAs, textWritten, written}
 use Rattle.rules.specs.Wcnf.{wcnfText, wcnfWritten}
@@ -161,19 +163,19 @@ weighed-small n table reading =
     as-judged Fine e = e
     as-judged (Refused r) e = e
 
-pub bounded-small : (d : List ℕ) → Small (byBounded (bounded d))
+pub bounded-small : (d : List ℕ) (choice : Choice) → Small (byBounded (bounded d choice))
 unfolding bounded
-bounded-small d = as-judged (deskWhy d) (desk-small d)
+bounded-small d choice = as-judged (deskWhy d) (desk-small d)
   where
-    as-judged : (j : Judged) → Small j → Small (byBounded (boundedAs j (lossesAt d (decisions d))))
+    as-judged : (j : Judged) → Small j → Small (byBounded (boundedAs j (lossesBy choice d (decisions d))))
     as-judged Fine e = e
     as-judged (Refused r) e = e
 
-pub searched-small : (d : List ℕ) (budget : ℕ) → Small (bySearched (searched d budget))
+pub searched-small : (d : List ℕ) (choice : Choice) (budget : ℕ) → Small (bySearched (searched d choice budget))
 unfolding searched
-searched-small d budget = as-judged (deskWhy d) (desk-small d)
+searched-small d choice budget = as-judged (deskWhy d) (desk-small d)
   where
-    as-judged : (j : Judged) → Small j → Small (bySearched (searchedAs j (foundBy (walkIn d budget))))
+    as-judged : (j : Judged) → Small j → Small (bySearched (searchedAs j (foundBy (walkIn d choice budget))))
     as-judged Fine e = e
     as-judged (Refused r) e = e
 

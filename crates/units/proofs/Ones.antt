@@ -47,17 +47,17 @@ and-in-or : (a b : ℕ) → without (bitAnd a b) (bitOr a b) ≡ 0
 and-in-or a b = within-trans (bitAnd a b) a (bitOr a b) (and-within a b) (within-union a b)
 
 module _ (a b : ℕ) where
-  abbrev these : Lits
+  abbrev pub these : Lits
   these = record { positive = a; negative = b }
 
   some-ones : (count (bitOr a b) ≡ 0 → ⊥) → isEmpty these ≡ false
   some-ones h = not-so (λ t. h (let m = empty-masks these t in rw (m .0, m .1, or-zero-l 0) count-zero))
 
-  one-left : count (bitOr a b) ≡ 1 → bitAnd a b ≡ 0 → isOne these ≡ true
+  pub one-left : count (bitOr a b) ≡ 1 → bitAnd a b ≡ 0 → isOne these ≡ true
   unfolding isOne
   one-left one apart = eq-eqb (count a + count b) 1 (omega (arith, count-or-and a b, ap count apart, count-zero))
 
-  left-one : a < 2 ^ 64 → isOne these ≡ true → (count (bitOr a b) ≡ 1) × (bitAnd a b ≡ 0)
+  pub left-one : a < 2 ^ 64 → isOne these ≡ true → (count (bitOr a b) ≡ 1) × (bitAnd a b ≡ 0)
   unfolding isOne
   left-one ha t =
       let one = eqb-true (count a + count b) 1 t in

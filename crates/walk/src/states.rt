@@ -3,7 +3,7 @@ ghost use mathlib.Core.Path.{_≡_};
 ghost use Prim.Native.Nat.{_+_, _<_, _^_};
 ghost use Rattle.rules.specs.Desk.{weightOn};
 ghost use Rattle.rules.specs.Walk.{visited, keptAt, halted, atStart, statusOf, bestOf, foundBy};
-ghost use Rattle.bound.specs.Units.{Readable};
+ghost use Rattle.desk_laws.specs.Readable.{Readable};
 use rules::Best;
 use rules::Desk;
 use rules::Found;

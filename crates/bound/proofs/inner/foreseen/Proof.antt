@@ -7,13 +7,13 @@ use Rattle.masks.specs.Sums.{sum}
 use Rattle.masks.proofs.Sums.{sum-empty, sum-more}
 use Rattle.rules.specs.Desk.{variables}
 use Rattle.rules.specs.Bound.{foreseen}
-use Rattle.bound.proofs.Fits.{foreseenBy, foreseen-next}
+use Rattle.bound.proofs.Fits.{addsAt, foreseen-next}
 use Rattle.bound.proofs.Gathering.{gathered-by}
 use Rattle.bound.proofs.inner.foreseen.Statement.{statement}
 use Rattle.bound.proofs.inner.foreseen.Tie as tie
 
 abbrev Inv-loop : tie.InvT-loop
-Inv-loop desk p sums n sum₀ v₀ passed v = (v ≤ n) × (passed ≡ sum v (foreseenBy desk p))
+Inv-loop desk p sums n sum₀ v₀ passed v = (v ≤ n) × (passed ≡ sum v (addsAt desk p))
 
 abbrev μ-loop : tie.MeasureT-loop
 μ-loop desk p sums n sum₀ v₀ passed v = n - v
@@ -32,7 +32,7 @@ smaller-at-requires c κs =
 -- what the turn adds
 added : (c : tie.After-smaller-at Inv-loop μ-loop)
     → let a = c .before .before .before .before .before .before .args in
-    c .smaller-at .result ≡ foreseenBy (a .desk .now) (a .p) (c .before .before .loop .v)
+    c .smaller-at .result ≡ addsAt (a .desk .now) (a .p) (c .before .before .loop .v)
 added c =
     let s = c .before .before .before .before .before .before in
     c .smaller-at .ensures
@@ -58,7 +58,7 @@ loop-less c = omega arith
 loop-again : tie.Need-loop-again Inv-loop μ-loop
 loop-again c =
     let a = c .before .before .before .before .before .before .args in
-    (omega arith, omega (arith, added c, sum-more (c .before .before .loop .v) (foreseenBy (a .desk .now) (a .p))))
+    (omega arith, omega (arith, added c, sum-more (c .before .before .loop .v) (addsAt (a .desk .now) (a .p))))
 
 returns : tie.Need-returns Inv-loop μ-loop
 unfolding foreseen
@@ -66,7 +66,7 @@ returns c =
     let a = c .before .before .before .before .before .args in
     let l = c .before .loop in
     let e : l .v ≡ variables (a .desk .now) = omega (arith, c .before .before .word .ensures) in
-    l .inv .1 ∙ ap (λ (k : ℕ). sum k (foreseenBy (a .desk .now) (a .p))) e
+    l .inv .1 ∙ ap (λ (k : ℕ). sum k (addsAt (a .desk .now) (a .p))) e
 
 pub foreseen-spec : {M : Type 1} → statement M
 foreseen-spec =

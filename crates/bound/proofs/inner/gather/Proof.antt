@@ -10,7 +10,7 @@ use Rattle.rules.specs.declared.Row.{Row}
 use Rattle.rules.specs.Desk.{inUse, rowOn}
 use Rattle.rules.specs.Bound.{weightWhere, lostBeyond}
 use Rattle.bound.specs.Units.{Gathered}
-use Rattle.bound.proofs.Fits.{rows-fit, row-fits}
+use Rattle.desk_laws.proofs.Readable.{rows-fit, row-fits}
 use Rattle.bound.proofs.Gathering.{gathered-more, gathered-roomy}
 use Rattle.bound.proofs.inner.gather.Statement.{statement}
 use Rattle.bound.proofs.inner.gather.Tie as tie

@@ -9,7 +9,7 @@ use Rattle.masks.proofs.Sums.{sum-empty, sum-more, sum-mono}
 use Rattle.rules.specs.declared.Row.{Row}
 use Rattle.rules.specs.Table.{mostWeight}
 use Rattle.rules.specs.Desk.{inUse, conceded, rowOn, weightOn}
-use Rattle.bound.specs.Units.{Readable}
+use Rattle.desk_laws.specs.Readable.{Readable}
 use Rattle.walk.proofs.states.weight_on.Statement.{statement}
 use Rattle.walk.proofs.states.weight_on.Tie as tie
 

@@ -1,0 +1,13 @@
+-- What code asks of a desk that it reads once another has judged it: less than well formed, so that the front of a desk has it too.
+use Prim.Native.Nat.{ℕ, _+_, _*_, _≤_}
+use mathlib.Core.List.{List}
+use lib.ListN.{length}
+use Rattle.literals.specs.Literal.{mostVariables}
+use Rattle.rules.specs.Table.{rowWords, mostWeight}
+use Rattle.rules.specs.Desk.{headWords, variables, inUse, weightOn}
+
+-- The rows in use lie within the words, no sum of their weights wraps, and each variable has a bit.
+pub record Readable (d : List ℕ) : Type 0 where
+  pub rows : headWords + rowWords * inUse d ≤ length d
+  pub weights : weightOn d ≤ mostWeight
+  pub bits : variables d ≤ mostVariables

@@ -1,0 +1,13 @@
+pub mod Parts
+pub mod Hunting
+pub mod Gathering
+pub mod Costs
+pub mod Bounds
+pub mod Branches
+pub mod Trails
+pub mod Fuel
+pub mod Enough
+pub mod Units
+pub mod FirstScan
+pub mod Stronger
+pub mod Alike
