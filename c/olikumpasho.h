@@ -58,8 +58,9 @@
    REFUSALS.
      number   refused because                                          by
      1        over 64 variables                                        load, weight_of, read, write, read_wcnf, write_wcnf
-     2        words not a multiple of 3, or over 512 rows              load, weight_of, read, write, read_wcnf, write_wcnf
-     3        capacity below the rows or over 1,024                    load
+     2        words not a multiple of 3, or over 2,048 rows            load, weight_of, read, write, read_wcnf, write_wcnf
+              over 512 rows                                            (in the text of answer)
+     3        capacity below the rows or over 4,096                    load
      4        what is lent for the result is too short                 load, read, write, answer, read_wcnf, write_wcnf
      5        a row has a variable both ways or above the count        load, weight_of, write, read_wcnf, write_wcnf
      6        a row weighs 0 or over 1,000,000,000                     load, weight_of, write, write_wcnf
@@ -78,7 +79,8 @@
      20       a line breaks the form                                   read, read_wcnf
      21       a clause weighs the file's top or more                   read_wcnf
    Where more than one holds, the first in the function's list below is given; rows are judged in order, each by 5 before 6. `answer` is
-   itself refused by 4 alone: what the program refuses, 19 too, it answers in its text. */
+   itself refused by 4 alone: what the program refuses, 19 too, it answers in its text. The program takes fewer rows than `read` does, and
+   refuses more of them where `read` would. */
 #ifndef OLIKUMPASHO_H
 #define OLIKUMPASHO_H
 
@@ -87,7 +89,7 @@
 #include <stdint.h>
 
 /* Rises by one with each change of a name, a number or a layout below. */
-#define OLIKUMPASHO_VERSION 4
+#define OLIKUMPASHO_VERSION 5
 
 /* ---- an answer, taken apart */
 
@@ -118,14 +120,15 @@
 /* ---- limits */
 
 #define OLIKUMPASHO_MOST_VARIABLES 64
-#define OLIKUMPASHO_MOST_ROWS 512 /* loaded */
-#define OLIKUMPASHO_MOST_CAPACITY 1024
+#define OLIKUMPASHO_MOST_ROWS 2048 /* loaded, read or written */
+#define OLIKUMPASHO_MOST_CAPACITY 4096
 #define OLIKUMPASHO_MOST_STEPS 256
 #define OLIKUMPASHO_MOST_WEIGHT 1000000000 /* of a row, and of all */
 #define OLIKUMPASHO_MOST_BUDGET 4294967295u
 #define OLIKUMPASHO_MOST_NAMED 12 /* rows of a rewriting */
 #define OLIKUMPASHO_MOST_CHAIN 8  /* k */
 #define OLIKUMPASHO_MOST_INPUT 65536 /* bytes that answer takes */
+#define OLIKUMPASHO_MOST_INPUT_ROWS 512 /* rows of a text that answer takes */
 
 /* ---- sizes of what is lent, of type size_t */
 
@@ -135,8 +138,8 @@
 #define OLIKUMPASHO_DESK_WORDS(capacity) \
     ((size_t)8 + OLIKUMPASHO_ROW_WORDS * (size_t)(capacity) + OLIKUMPASHO_ENTRY_WORDS * OLIKUMPASHO_MOST_STEPS)
 /* Bytes that are enough for write, for write_wcnf, and for answer, whatever they are given. */
-#define OLIKUMPASHO_MOST_WRITTEN ((size_t)136793)
-#define OLIKUMPASHO_MOST_WRITTEN_WCNF ((size_t)131663)
+#define OLIKUMPASHO_MOST_WRITTEN ((size_t)545687)
+#define OLIKUMPASHO_MOST_WRITTEN_WCNF ((size_t)525197)
 #define OLIKUMPASHO_MOST_ANSWERED ((size_t)883)
 
 /* ---- the words of a desk */
@@ -203,8 +206,8 @@
 #define OLIKUMPASHO_STACK_DECIDE 1024
 #define OLIKUMPASHO_STACK_REWRITE 8192
 #define OLIKUMPASHO_STACK_TAKE_BACK 8192
-#define OLIKUMPASHO_STACK_BOUND 16384
-#define OLIKUMPASHO_STACK_SEARCH 40960
+#define OLIKUMPASHO_STACK_BOUND 40960
+#define OLIKUMPASHO_STACK_SEARCH 65536
 #define OLIKUMPASHO_STACK_READ 2048
 #define OLIKUMPASHO_STACK_WRITE 2048
 #define OLIKUMPASHO_STACK_ANSWER 40960

@@ -251,14 +251,15 @@ static void break_desk(struct run *r)
     unformed(r, "(b) variables", VARIABLES, MOST_VARIABLES + 1);
     unformed(r, "(b) more loaded than in use", LOADED, d[IN_USE] + 1);
     if (d[IN_USE] > MOST_LOADED) {
-        with_poked(r, "(b) 512 rows loaded", LOADED, MOST_LOADED, "wellformed");
-        unformed(r, "(b) 513 rows loaded", LOADED, MOST_LOADED + 1);
-        unformed(r, "(b) 513 rows loaded", LOADED, d[IN_USE]);
+        with_poked(r, "(b) most rows loaded", LOADED, MOST_LOADED, "wellformed");
+        unformed(r, "(b) too many rows loaded", LOADED, MOST_LOADED + 1);
+        unformed(r, "(b) too many rows loaded", LOADED, d[IN_USE]);
+        with_poked(r, "(b) too many rows loaded", LOADED, MOST_LOADED + 1, "rewrite 1 0 1");
     }
     if (d[IN_USE] == d[CAPACITY] && d[STEPS] == 0) unformed(r, "(b) more in use than C", IN_USE, d[CAPACITY] + 1);
     unformed(r, "(b) more in use than C", IN_USE, ~(word)0);
-    with_poked(r, "(b) 256 steps", STEPS, MOST_STEPS, "wellformed");
-    unformed(r, "(b) 257 steps", STEPS, MOST_STEPS + 1);
+    with_poked(r, "(b) most steps", STEPS, MOST_STEPS, "wellformed");
+    unformed(r, "(b) one step too many", STEPS, MOST_STEPS + 1);
     unformed_rows(r);
     unformed_sums(r);
     unformed_masks(r);

@@ -128,3 +128,20 @@ static void bring_sum_to_limit(struct draft *d, word over)
     for (word r = 1; r < d->rows; r++) all += d->words[ROW_WORDS * r + 2];
     if (all < MOST_WEIGHT + over) d->words[2] = MOST_WEIGHT + over - all;
 }
+
+/* The table whose text is longest: every literal negative, as many digits as the sum of the weights allows, and that sum at its limit, so
+   that the top of its competition file is as long as one can be. */
+static void draft_longest(struct draft *d)
+{
+    struct clause all = {0};
+    word weight = 1;
+    *d = (struct draft){.variables = MOST_VARIABLES};
+    for (int v = 1; v <= MOST_VARIABLES; v++) all.literals[all.count++] = (signed char)-v;
+    while (10 * weight * MOST_LOADED <= MOST_WEIGHT) weight *= 10;
+    word spare = MOST_WEIGHT - weight * MOST_LOADED, longer = spare / (9 * weight);
+    for (word r = 0; r < MOST_LOADED; r++) add_row(d, all, r < longer ? 10 * weight : weight);
+    d->words[ROW_WORDS * d->rows - 1] += spare % (9 * weight);
+}
+
+/* Bytes that hold the text of so many rows, whatever they are, and their competition file too. */
+static word text_room(word rows) { return 40 + 270 * rows; }

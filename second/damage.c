@@ -119,7 +119,7 @@ static void damage_end(const char *name, struct lines *l)
     else if (strcmp(name, "row-too-many") == 0) strcpy(l->tail, "weight=1\nlits=\n");
     else if (strcmp(name, "half-row-more") == 0) strcpy(l->tail, "weight=1\n");
     else if (strcmp(name, "row-too-few") == 0) l->count -= 2;
-    else if (strcmp(name, "count-too-high") == 0) strcpy(l->text[2], "rows=512");
+    else if (strcmp(name, "count-too-high") == 0) sprintf(l->text[2], "rows=%d", MOST_INPUT_ROWS);
     else if (strcmp(name, "last-line-open") == 0) cut(l, l->count - 1, strlen(l->text[l->count - 1]));
 }
 

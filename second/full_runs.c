@@ -1,5 +1,5 @@
-/* Part of runs.c: runs at document 01's limits. Full tables and desks, the longest chains and forks, 255 and 256 standing steps, 64
-   variables, sums at the limit; and the families of all of them, with those of broken_desks.c. */
+/* Part of runs.c: runs at document 01's limits. Full tables and desks, the longest chains and forks, all the steps that may stand, all
+   variables, sums at the limit, the longest texts; and the families of all of them, with those of broken_desks.c and full_desks.c. */
 
 /* --- full tables --- */
 
@@ -21,7 +21,7 @@ static void call_table(struct run *r, const struct draft *d, const char *name)
     meets(r, name);
     emit(r, "weight %" PRIu64 " %" PRIu64, d->variables, reading);
     meets(r, name);
-    emit(r, "write %" PRIu64 " %" PRIu64 " 140000 170", d->variables, budget);
+    emit(r, "write %" PRIu64 " %" PRIu64 " %" PRIu64 " 170", d->variables, budget, text_room(d->rows));
     meets(r, name);
     emit(r, "load %" PRIu64 " %" PRIu64, d->variables, d->rows > MOST_LOADED ? (word)MOST_CAPACITY : between(c, d->rows, MOST_CAPACITY));
 }
@@ -35,18 +35,23 @@ static void run_full_table(struct run *r)
     word past = draw(c) % 2;
     emit(r, "lend %" PRIu64 " %" PRIu64, MOST_DESK + past, odd_word(c));
     emit_table(r, d.words, ROW_WORDS * d.rows);
-    call_table(r, &d, "512 rows");
+    call_table(r, &d, "most rows");
     emit_bounds(r);
-    emit_searches(r, between(c, 0, 200));
+    emit_searches(r, between(c, 0, 3));
+    emit(r, "search %d %" PRIu64, UNITS, between(c, 0, 200));
     emit(r, "weight %" PRIu64 " %" PRIu64, d.variables, ~(word)0);
+    meets(r, "C below the rows");
     emit(r, "load %" PRIu64 " %d", d.variables, MOST_LOADED - 1);
+    meets(r, "C at its most");
+    emit(r, "load %" PRIu64 " %d", d.variables, MOST_CAPACITY);
+    meets(r, "C over its most");
     emit(r, "load %" PRIu64 " %d", d.variables, MOST_CAPACITY + 1);
     emit_table(r, d.words, ROW_WORDS * d.rows - 1);
     call_table(r, &d, "not a multiple of 3");
     bad = d;
     full_draft(c, &bad, 1);
     emit_table(r, bad.words, ROW_WORDS * bad.rows);
-    call_table(r, &bad, "513 rows");
+    call_table(r, &bad, "one row too many");
     bad = d;
     word row = one_in(c, 2) ? (word)MOST_LOADED - 1 : draw(c) % MOST_LOADED, bit = any_variable(c, d.variables);
     bad.words[ROW_WORDS * row] |= bit, bad.words[ROW_WORDS * row + 1] |= bit;
@@ -64,11 +69,11 @@ static void run_full_table(struct run *r)
 static void run_sums(struct run *r)
 {
     struct chance *c = &r->chance;
-    static const word places[] = {1, 2, 11, 12, 13, 100, 510, 511};
+    static const word places[] = {1, 2, 11, 12, 13, 100, MOST_LOADED - 2, MOST_LOADED - 1};
     word place = places[draw(c) % 8], rows = one_in(c, 2) ? place + 1 : between(c, place + 1, MOST_LOADED), all = 0;
     static struct draft d;
     d = (struct draft){.variables = between(c, 1, MOST_VARIABLES)};
-    add_mixed_rows(c, &d, rows, 900000);
+    add_mixed_rows(c, &d, rows, MOST_WEIGHT / MOST_LOADED - 1);
     for (word i = 0; i < place; i++) all += d.words[ROW_WORDS * i + 2];
     for (word i = place + 1; i < rows; i++) all += d.words[ROW_WORDS * i + 2] = 1;
     emit(r, "lend %d 5", MOST_DESK);
@@ -87,124 +92,7 @@ static void run_sums(struct run *r)
     call_table(r, &(struct draft){.variables = d.variables, .rows = 1}, "one row of the largest weight");
 }
 
-/* --- full desks --- */
-
-/* Rows 0 and 1 are shifted there and back; behind them rows for one of each kind; 512 in all. */
-static void full_desk_draft(struct chance *c, struct draft *d)
-{
-    d->variables = between(c, 20, MOST_VARIABLES);
-    add_row(d, unit_row(1), 5);
-    add_row(d, pair_row(-1, 2), 5);
-    add_fork(c, d, MOST_LINKS, 3);
-    add_chain(c, d, MOST_LINKS, 3);
-    add_row(d, pair_row(3, -4), 2);
-    add_row(d, pair_row(3, 4), 2);
-    while (d->rows < MOST_LOADED - 3) {
-        word length = between(c, 0, 3), weight = between(c, 1, 9);
-        add_row(d, draw_clause(c, d->variables, length), weight);
-    }
-    add_row(d, unit_row(-1), 4);
-    add_row(d, unit_row(-2), 4);
-    add_row(d, unit_row(7), 2);
-}
-
-/* Shifts until so many rows are in use. Even rows hold (l1, not l2), odd ones l2. */
-static void shift_until(struct run *r, word rows)
-{
-    emit(r, "rewrite 2 0 1");
-    for (word row = MOST_LOADED; row + 4 <= rows; row += 2) emit(r, "rewrite 2 %" PRIu64 " %" PRIu64, row + 1, row);
-}
-
-static void run_full_desk(struct run *r)
-{
-    struct chance *c = &r->chance;
-    static struct draft d;
-    d = (struct draft){0};
-    full_desk_draft(c, &d);
-    start_desk(r, &d, MOST_LOADED, draw(c) % 4);
-    word rows = MOST_CAPACITY - (one_in(c, 2) ? 10 : 8);
-    shift_until(r, rows);
-    if (rows == MOST_CAPACITY - 10) emit_rows_from(r, FORK, 2, 12);
-    else emit_rows_from(r, CHAIN, 14, 10);
-    meets(r, "C full at 1,024");
-    emit(r, "wellformed");
-    meets(r, "one row more than C has");
-    emit_rows_from(r, MERGE, 24, 2);
-    emit_bounds(r);
-    emit_searches(r, between(c, 0, 60));
-    /* the last shift's unit is 1 or 2, and opposed to one of these two */
-    word last = rows - 1, opposed = lent_words(r)[row_word(last, 0)] == 1 ? 509 : 510;
-    meets(r, "a high row named");
-    emit(r, "rewrite 3 %" PRIu64 " %" PRIu64, last, opposed);
-    meets(r, "a high row named");
-    emit(r, "rewrite 1 %" PRIu64 " %d", opposed, MOST_CAPACITY);
-    break_desk(r);
-    call_many(r, 4);
-    take_all_back(r);
-}
-
-/* The last row of all is named: shifts to 1,024 rows, then two units that concede. */
-static void run_last_row(struct run *r)
-{
-    struct chance *c = &r->chance;
-    static struct draft d;
-    d = (struct draft){0};
-    full_desk_draft(c, &d);
-    start_desk(r, &d, MOST_LOADED, draw(c) % 2);
-    shift_until(r, MOST_CAPACITY - 2);
-    word unit = MOST_CAPACITY - 3;
-    word opposed = lent_words(r)[row_word(unit, 0)] == 1 ? 509 : 510;
-    /* one step is left, and two rows */
-    emit(r, "rewrite 2 %" PRIu64 " %" PRIu64, unit, unit - 1);
-    meets(r, "256 steps and 1,024 rows");
-    emit(r, "rewrite 3 %" PRIu64 " %" PRIu64, unit + 2, opposed);
-    emit(r, "back");
-    emit(r, "back");
-    emit(r, "back");
-    /* rows 1,019 and on are free again, and three steps */
-    emit(r, "rewrite 3 %" PRIu64 " %" PRIu64, unit - 4, lent_words(r)[row_word(unit - 4, 0)] == 1 ? (word)509 : (word)510);
-    emit(r, "back");
-    call_many(r, 3);
-    emit(r, "back");
-}
-
-/* As full as it can be with steps to spare: forks of ten new rows each take the rows from 512 to 1,022 or so in 51 steps, and the last
-   rows come from shifts and merges. So row 1,023 is named while steps are left. */
-static void run_row_1023(struct run *r)
-{
-    struct chance *c = &r->chance;
-    static struct draft d;
-    d = (struct draft){.variables = MOST_VARIABLES};
-    /* 40 forks of 12 rows, their ends apart */
-    for (int i = 0; i < 40; i++) add_fork(c, &d, MOST_LINKS, 4);
-    add_row(&d, unit_row(1), 30);
-    add_row(&d, pair_row(-1, 2), 30);
-    add_row(&d, unit_row(-1), 9);
-    add_row(&d, unit_row(-2), 9);
-    while (d.rows < MOST_LOADED) add_row(&d, draw_clause(c, d.variables, 3), 1);
-    start_desk(r, &d, MOST_LOADED, 0);
-    for (word i = 0; i < 40; i++) emit_rows_from(r, FORK, 12 * i, 12);
-    /* 912 rows; 56 shifts make them 1,024 */
-    emit(r, "rewrite 2 480 481");
-    for (word row = lent_words(r)[IN_USE] - 2; row + 4 <= MOST_CAPACITY; row += 2)
-        emit(r, "rewrite 2 %" PRIu64 " %" PRIu64, row + 1, row);
-    meets(r, "C full at 1,024");
-    emit(r, "wellformed");
-    word unit = lent_words(r)[IN_USE] - 1, opposed = lent_words(r)[row_word(unit, 0)] == 1 ? 482 : 483;
-    meets(r, "row 1,023 named");
-    emit(r, one_in(c, 2) ? "rewrite 1 %" PRIu64 " %" PRIu64 : "rewrite 3 %" PRIu64 " %" PRIu64, unit, opposed);
-    meets(r, "row 1,023 named");
-    emit(r, "back");
-    meets(r, "row 1,024 named");
-    emit(r, "rewrite 1 %" PRIu64 " %" PRIu64, opposed, unit + 1);
-    meets(r, "one row more than C has");
-    emit(r, "rewrite 2 %" PRIu64 " %" PRIu64, unit, unit - 1);
-    emit(r, "decide -5");
-    emit_bounds(r);
-    emit_searches(r, between(c, 0, 40));
-    call_many(r, 3);
-    for (int i = 0; i < 12; i++) emit(r, "back");
-}
+#include "full_desks.c"
 
 /* --- longest chains and forks, each wrong in one place --- */
 
@@ -266,7 +154,7 @@ static void run_longest(struct run *r)
     emit(r, "back");
 }
 
-/* --- 255 and 256 standing steps --- */
+/* --- as many standing steps as there may be --- */
 
 static void run_steps(struct run *r)
 {
@@ -276,20 +164,20 @@ static void run_steps(struct run *r)
     add_row(&d, pair_row(-1, 2), 5);
     add_row(&d, unit_row(2), 3);
     add_row(&d, unit_row(-2), 3);
-    start_desk(r, &d, between(c, 520, 1020), draw(c) % 2);
+    start_desk(r, &d, between(c, 2 * MOST_STEPS + 8, 4 * MOST_STEPS - 4), draw(c) % 2);
     emit(r, "rewrite 2 0 1");
     for (int i = 1; i < MOST_STEPS - 1; i++) emit(r, "rewrite 2 %d %d", 2 * i + 3, 2 * i + 2);
-    meets(r, "the 256th step");
+    meets(r, "the last step that may stand");
     emit(r, one_in(c, 2) ? "decide -2" : "rewrite 1 2 3");
-    meets(r, "a step beside 256");
+    meets(r, "a step beside most steps");
     emit(r, "decide 1");
-    meets(r, "a step beside 256");
+    meets(r, "a step beside most steps");
     emit(r, "rewrite 3 2 3");
-    meets(r, "a step beside 256");
+    meets(r, "a step beside most steps");
     emit(r, "decide 0");
     emit(r, "wellformed");
     emit_bounds(r);
-    meets(r, "256 steps, one taken back");
+    meets(r, "most steps, one taken back");
     emit(r, "back");
     emit(r, "rewrite 3 2 3");
     take_all_back(r);
@@ -345,6 +233,30 @@ static void run_all_variables(struct run *r)
 
 /* --- full texts into words and bytes that just hold them --- */
 
+static void draft_for_room(struct chance *c, struct draft *d)
+{
+    *d = (struct draft){0};
+    if (one_in(c, 12)) draft_longest(d);
+    else if (one_in(c, 2)) full_draft(c, d, one_in(c, 3) ? (word)MOST_LOADED : one_in(c, 3) ? (word)MOST_INPUT_ROWS : between(c, 0, 40));
+    else draft_for_steps(c, d, between(c, 0, 9), 900);
+}
+
+/* The table, as a competition file. */
+static void emit_file(struct run *r, const struct draft *d)
+{
+    static char out[MOST_FILE];
+    size_t length = 0;
+    write_wcnf(table_of(d), out, sizeof out, &length);
+    const char *name = length == MOST_FILE ? "the longest file" : "just room";
+    meets(r, name);
+    emit(r, "writewcnf %" PRIu64 " %zu 170", d->variables, length);
+    meets(r, "a byte short of room");
+    emit(r, "writewcnf %" PRIu64 " %zu 170", d->variables, length - 1);
+    emit_bytes(r, (unsigned char *)out, length);
+    meets(r, name);
+    emit(r, "readwcnf %" PRIu64 " 6", ROW_WORDS * d->rows);
+}
+
 static void run_room(struct run *r)
 {
     struct chance *c = &r->chance;
@@ -353,19 +265,19 @@ static void run_room(struct run *r)
     static const word budgets[] = {0, 9, 10, 4294967294, 4294967295};
     static char out[MOST_TEXT];
     size_t length = 0;
-    d = (struct draft){0};
-    if (one_in(c, 2)) full_draft(c, &d, one_in(c, 3) ? (word)MOST_LOADED : between(c, 0, 40));
-    else draft_for_steps(c, &d, between(c, 0, 9), 900);
+    draft_for_room(c, &d);
     word budget = budgets[draw(c) % 5];
     write_text(table_of(&d), (uint32_t)budget, out, sizeof out, &length);
+    const char *name = length + MOST_DIGITS > MOST_TEXT ? "the longest text" : "just room"; /* but for the budget */
     emit_table(r, d.words, ROW_WORDS * d.rows);
-    meets(r, "just room");
+    meets(r, name);
     emit(r, "write %" PRIu64 " %" PRIu64 " %zu 170", d.variables, budget, length);
     meets(r, "a byte short of room");
     emit(r, "write %" PRIu64 " %" PRIu64 " %zu 170", d.variables, budget, length - 1);
-    lines_of(&l, &d, budget > 100 && d.variables > 9 ? 30 : budget);
+    emit_file(r, &d);
+    lines_of(&l, &d, budget > 100 && d.variables > 9 && d.rows <= MOST_INPUT_ROWS ? 30 : budget);
     emit_text(r, &l);
-    meets(r, "just room");
+    meets(r, name);
     emit(r, "read %" PRIu64 " 6", ROW_WORDS * d.rows);
     if (d.rows > 0) {
         meets(r, "a word short of room");
@@ -384,12 +296,39 @@ static void run_room(struct run *r)
     emit(r, "answer 345 85");
 }
 
+/* --- texts of as many rows as the program takes, as the readers take, and of one more --- */
+
+static void run_many_rows(struct run *r)
+{
+    static struct draft d;
+    static struct lines l;
+    static const struct {
+        word rows;
+        const char *name;
+    } texts[] = {{MOST_INPUT_ROWS, "most rows for the program"}, {MOST_INPUT_ROWS + 1, "one row too many for the program"},
+                 {MOST_LOADED, "most rows"},                     {MOST_LOADED + 1, "one row too many"}};
+    struct chance *c = &r->chance;
+    for (int i = 0; i < 4; i++) {
+        draft_many(c, &d, texts[i].rows);
+        lines_of(&l, &d, between(c, 0, 9));
+        bool late = one_in(c, 3);
+        if (late) damage_late(c, &l);
+        emit_text(r, &l);
+        meets(r, late ? "one of the last rows broken" : texts[i].name);
+        emit(r, "read %d 6", ROW_WORDS * MOST_LOADED);
+        meets(r, texts[i].name);
+        emit(r, "read %" PRIu64 " 6", ROW_WORDS * (texts[i].rows - 1));
+        meets(r, texts[i].name);
+        emit(r, "answer %d 85", MOST_ANSWER);
+    }
+}
+
 static const struct run_family full_families[] = {
     {"entries", run_entries},       {"unformed", run_unformed}, {"longest", run_longest},
     {"decision-entries", run_decision_entries}, {"sums", run_sums}, {"room", run_room},
     {"entries", run_entries},       {"unformed", run_unformed}, {"longest", run_longest},
     {"full-table", run_full_table}, {"all-variables", run_all_variables}, {"long-search", run_long_search},
-    {"full-desk", run_full_desk},   {"row-1023", run_row_1023}, {"steps", run_steps}, {"last-row", run_last_row},
-    {"ledger", run_ledger},         {"room", run_room},
+    {"full-desk", run_full_desk},   {"last-named", run_last_named}, {"steps", run_steps}, {"last-row", run_last_row},
+    {"ledger", run_ledger},         {"room", run_room},         {"many-rows", run_many_rows},
 };
 enum { FULL_FAMILIES = sizeof full_families / sizeof *full_families };

@@ -39,38 +39,46 @@ static void text_long_answer(struct chance *c, struct lines *l)
     lines_of(l, &d, budgets[draw(c) % 3]);
 }
 
-/* One of the last rows is broken, in lines 1,018 to 1,027. */
-static void text_late_damage(struct chance *c, struct lines *l)
+/* One of the last five rows is broken. */
+static void damage_late(struct chance *c, struct lines *l)
 {
-    static struct draft d;
-    draft_many(c, &d, MOST_LOADED);
-    lines_of(l, &d, between(c, 0, 9));
     int row = l->count - 2 * (int)between(c, 1, 5);
     if (one_in(c, 2)) fill_template(l->text[row], number_damages[draw(c) % NUMBER_DAMAGES].template);
     else strcpy(l->text[row + 1], literal_damages[draw(c) % LITERAL_DAMAGES].template);
 }
 
-/* Something behind the 512th row, or its end missing. */
+static void text_late_damage(struct chance *c, struct lines *l)
+{
+    static struct draft d;
+    draft_many(c, &d, MOST_INPUT_ROWS);
+    lines_of(l, &d, between(c, 0, 9));
+    damage_late(c, l);
+}
+
+/* Something behind the last row that may be, or its end missing. */
 static void text_surplus(struct chance *c, struct lines *l)
 {
     static struct draft d;
     static const char *const ends[] = {"blank-at-end", "byte-at-end", "space-at-end", "nul-at-end", "row-too-many", "half-row-more",
                                        "row-too-few", "last-line-open"};
-    draft_many(c, &d, MOST_LOADED);
+    draft_many(c, &d, MOST_INPUT_ROWS);
     lines_of(l, &d, between(c, 0, 9));
     damage_end(ends[draw(c) % 8], l);
 }
 
-/* One of the heads at its limit. The largest budgets stand over texts that end soon. */
+/* One of the heads at its limit, the rows at the program's or the reader's; of too many rows one of the last may be broken besides. The
+   largest budgets stand over texts that end soon. */
 static void text_heads(struct chance *c, struct lines *l)
 {
     static struct draft d;
-    static const word rows[] = {510, 511, 512, 513, 514}, variables[] = {63, 64, 65, 66};
+    static const word rows[] = {MOST_INPUT_ROWS - 2, MOST_INPUT_ROWS - 1, MOST_INPUT_ROWS, MOST_INPUT_ROWS + 1, MOST_INPUT_ROWS + 2,
+                                MOST_LOADED - 1, MOST_LOADED, MOST_LOADED + 1}, variables[] = {63, 64, 65, 66};
     static const word budgets[] = {4294967294, 4294967295, 4294967296, 4294967297};
     word which = draw(c) % 3;
     if (which == 0) {
-        draft_many(c, &d, rows[draw(c) % 5]);
+        draft_many(c, &d, rows[draw(c) % 8]);
         lines_of(l, &d, between(c, 0, 9));
+        if (d.rows > MOST_INPUT_ROWS && one_in(c, 3)) damage_late(c, l);
     } else if (which == 1) {
         draft_many(c, &d, between(c, 0, 3));
         lines_of(l, &d, between(c, 0, 99));
@@ -86,7 +94,7 @@ static void text_heads(struct chance *c, struct lines *l)
 static void text_bad_row(struct chance *c, struct lines *l)
 {
     static struct draft d;
-    draft_many(c, &d, one_in(c, 4) ? between(c, 12, 40) : (word)MOST_LOADED);
+    draft_many(c, &d, one_in(c, 4) ? between(c, 12, 40) : (word)MOST_INPUT_ROWS);
     word places[] = {0, 11, d.rows - 1, d.rows - 1, draw(c) % d.rows}, place = places[draw(c) % 5], all = 0;
     for (word i = 0; i < d.rows; i++) all += i == place ? 0 : d.words[ROW_WORDS * i + 2];
     word *row = d.words + ROW_WORDS * place, how = draw(c) % 4;

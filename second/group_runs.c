@@ -103,20 +103,21 @@ static void run_one_needs_all(struct run *r)
     emit_searches(r, between(c, 0, 70));
 }
 
-/* 512 rows, among which groups are many. */
+/* Many rows, now and then as many as may be loaded, among which groups are many. */
 static void run_many_groups(struct run *r)
 {
     struct chance *c = &r->chance;
     static struct draft d;
+    bool full = one_in(c, 8);
     d = (struct draft){.variables = between(c, 20, MOST_VARIABLES)};
-    word most = one_in(c, 2) ? 9 : 1900000;
+    word most = one_in(c, 2) ? 9 : MOST_WEIGHT / MOST_LOADED;
     add_random_rows(c, &d, between(c, 40, 90), 1, most);
     add_random_rows(c, &d, between(c, 100, 300), 2, most);
-    add_random_rows(c, &d, MOST_LOADED - d.rows, 3, most);
+    add_random_rows(c, &d, (full ? MOST_LOADED : MOST_INPUT_ROWS) - d.rows, 3, most);
     start_desk(r, &d, 0, 0);
-    emit_both(r, between(c, 0, 12));
+    emit_both(r, between(c, 0, full ? 2 : 12));
     for (int i = 0; i < 3; i++) call_decide(r);
-    emit_both(r, between(c, 0, 6));
+    emit_both(r, between(c, 0, full ? 2 : 6));
 }
 
 static const struct run_family group_families[] = {

@@ -18,12 +18,12 @@ struct hunt {
 
 enum { NO_CONFLICT = -1, UNITS_AT_NODE = 0 };
 
-static struct hunt at_node(const struct sheet *s, const struct partial *p)
+static void begin_hunts(struct hunt *h, const struct sheet *s, const struct partial *p)
 {
-    struct hunt h = {.sheet = s, .node = p};
+    h->sheet = s;
+    h->node = p;
     for (int r = 0; r < s->count; r++)
-        if (!is_satisfied(&s->rows[r], p) && remnant_of(&s->rows[r], p).count > 0) h.weights[r] = s->weights[r];
-    return h;
+        h->weights[r] = !is_satisfied(&s->rows[r], p) && remnant_of(&s->rows[r], p).count > 0 ? s->weights[r] : 0;
 }
 
 /* The test of a scan: the remnant at the node is one literal, or the row holds the negation of a literal made true. */
@@ -103,19 +103,22 @@ static bool next_group(struct hunt *h, struct group *g)
 
 static word foreseen_by_groups(const struct sheet *s, const struct partial *p)
 {
-    struct hunt h = at_node(s, p);
+    struct hunt h;
     struct group g;
     word sum = 0;
+    begin_hunts(&h, s, p);
     while (next_group(&h, &g)) sum += g.cost;
     return sum;
 }
 
 int groups_found(const word *desk, struct group *groups, int most)
 {
-    struct sheet s = sheet_of(desk);
+    static struct sheet s;
+    struct hunt h;
     struct partial p = standing(desk);
-    struct hunt h = at_node(&s, &p);
     int count = 0;
+    fill_sheet(&s, desk);
+    begin_hunts(&h, &s, &p);
     while (count < most && next_group(&h, &groups[count])) count++;
     return count;
 }

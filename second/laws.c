@@ -129,7 +129,7 @@ static void check_round_trip(struct tally *t, struct chance *c)
         struct header head;
         size_t length;
         uint32_t budget = (uint32_t)draw(c);
-        word most = one_in(c, 2) ? 9 : 1900000;
+        word most = one_in(c, 2) ? 9 : MOST_WEIGHT / MOST_LOADED;
         add_mixed_rows(c, &d, one_in(c, 30) ? MOST_LOADED : between(c, 0, 12), most);
         word count = ROW_WORDS * d.rows;
         check(t, is(write_text(table_of(&d), budget, text, MOST_TEXT, &length), 0, 0), "the writer takes the table");

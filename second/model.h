@@ -9,18 +9,19 @@
 #include <stdint.h>
 
 typedef uint64_t word;
-/* Sums of lent words are true sums: 1,024 words of 64 bits, or 12 times one, stay far below 128 bits. */
+/* Sums of lent words are true sums: a word of 64 bits for each row of a desk, or 12 times one, stay far below 128 bits. */
 __extension__ typedef unsigned __int128 sum;
 
 enum {
     MOST_VARIABLES = 64,
-    MOST_LOADED = 512,
-    MOST_CAPACITY = 1024,
+    MOST_LOADED = 2048,
+    MOST_CAPACITY = 4096,
     MOST_STEPS = 256,
     MOST_WEIGHT = 1000000000,
     MOST_NAMED = 12,
     MOST_LINKS = 8,
     MOST_INPUT = 65536,
+    MOST_INPUT_ROWS = 512, /* document 02's C-15: what both programs take; the readers take MOST_LOADED */
     MOST_DIGITS = 10,
     HEAD_WORDS = 8,
     ROW_WORDS = 3,
@@ -28,7 +29,8 @@ enum {
     ENTRIES_WORDS = MOST_STEPS * ENTRY_WORDS,
     MOST_DESK = HEAD_WORDS + ROW_WORDS * MOST_CAPACITY + ENTRIES_WORDS,
     MOST_ANSWER = 1024,
-    MOST_TEXT = 140000 /* above the longest text of an admissible table, 136,793 bytes */
+    MOST_TEXT = 545687, /* the longest text of an admissible table: 883 weights of 7 digits and 1,165 of 6 */
+    MOST_FILE = 525197  /* the longest competition file of one: the same, and a top of 10 digits */
 };
 #define MOST_BUDGET 4294967295u
 

@@ -11,180 +11,7 @@ struct run {
 };
 
 #include "fitting.c"
-
-/* Writes a line of the script and runs it. */
-static void emit(struct run *r, const char *form, ...)
-{
-    char line[400];
-    va_list words;
-    va_start(words, form);
-    vsnprintf(line, sizeof line, form, words);
-    va_end(words);
-    fprintf(r->out, "%s\n", line);
-    if (!run_line(&r->bench, line, NULL)) {
-        fprintf(stderr, "a line was made that is not of the language: %s\n", line);
-        exit(2);
-    }
-}
-
-/* The table's line can be long, so that it has a way of its own. */
-static void emit_table(struct run *r, const word *words, word count)
-{
-    char *line = room_for(10 + 21 * count);
-    size_t at = (size_t)sprintf(line, "table");
-    for (word i = 0; i < count; i++) at += (size_t)sprintf(line + at, " %" PRIu64, words[i]);
-    fprintf(r->out, "%s\n", line);
-    run_line(&r->bench, line, NULL);
-    free(line);
-}
-
-static void emit_text(struct run *r, const struct lines *l)
-{
-    static char line[2 * MOST_LINES * MOST_LINE];
-    char *at = line + sprintf(line, "text ");
-    for (int i = 0; i < l->count; i++) {
-        for (const char *p = l->text[i]; *p != 0; p++) at += sprintf(at, "%02x", *p == 1 ? 0u : (unsigned char)*p);
-        at += sprintf(at, "0a");
-    }
-    for (const char *p = l->tail; *p != 0; p++) at += sprintf(at, "%02x", *p == 1 ? 0u : (unsigned char)*p);
-    fprintf(r->out, "%s\n", line);
-    run_line(&r->bench, line, NULL);
-}
-
-static const word odd_words[] = {0, 1, 2, 3, 4, 5, 6, 12, 63, 64, 65, 255, 256, 257, 511, 512, 513, 1023, 1024, 1025,
-                                 999999999, 1000000000, 1000000001, 4294967296, (word)1 << 63, ~(word)0 - 1, ~(word)0};
-static word odd_word(struct chance *c) { return odd_words[draw(c) % (sizeof odd_words / sizeof *odd_words)]; }
-
-/* --- under either bound --- */
-
-/* Any number but 0 chooses the bound by groups. */
-static word groups_choice(struct run *r)
-{
-    word odd = odd_word(&r->choices);
-    return odd == UNITS || one_in(&r->choices, 2) ? (word)GROUPS : odd;
-}
-
-static void emit_bounds(struct run *r)
-{
-    emit(r, "bound %d", UNITS);
-    emit(r, "bound %" PRIu64, groups_choice(r));
-}
-
-static void emit_searches(struct run *r, word budget)
-{
-    emit(r, "search %d %" PRIu64, UNITS, budget);
-    emit(r, "search %" PRIu64 " %" PRIu64, groups_choice(r), budget);
-}
-
-/* --- good and bad calls --- */
-
-static void start_desk(struct run *r, const struct draft *d, word spare, word past)
-{
-    word capacity = d->rows + spare > MOST_CAPACITY ? MOST_CAPACITY : d->rows + spare;
-    emit_table(r, d->words, ROW_WORDS * d->rows);
-    emit(r, "lend %" PRIu64 " %" PRIu64, desk_size(capacity) + past, odd_word(&r->chance));
-    emit(r, "load %" PRIu64 " %" PRIu64, d->variables, capacity);
-}
-
-static bool desk_stands(const struct run *r) { return well_formed(bench_desk(&r->bench)); }
-
-static void call_decide(struct run *r)
-{
-    struct chance *c = &r->chance;
-    word variables = desk_stands(r) ? r->bench.lent[VARIABLES] : 3;
-    if (variables == 0 || one_in(c, 12)) {
-        static const char *const bad[] = {"0",   "65",  "-65", "64", "-64", "-9223372036854775808", "9223372036854775807",
-                                          "4294967297"};
-        emit(r, "decide %s", bad[draw(c) % 8]);
-    } else {
-        emit(r, "decide %d", draw_literal(c, variables));
-    }
-}
-
-static void emit_rewrite(struct run *r, word kind, const word *named, word count)
-{
-    char line[400];
-    size_t at = (size_t)sprintf(line, "rewrite %" PRIu64, kind);
-    for (word i = 0; i < count; i++) at += (size_t)sprintf(line + at, " %" PRIu64, named[i]);
-    emit(r, "%s", line);
-}
-
-/* One thing wrong with rows that would fit, or almost. */
-static void spoil(struct chance *c, word *kind, word *named, word *count)
-{
-    word i = draw(c) % *count, j = draw(c) % *count, held = named[i];
-    switch (draw(c) % 6) {
-    case 0: named[i] = named[j], named[j] = held; break;
-    case 1: named[i] = named[j]; break;
-    case 2: --*count; break;
-    case 3: named[*count] = draw(c) % 8, ++*count; break;
-    case 4: named[i] = one_in(c, 2) ? odd_word(c) : draw(c) % 20; break;
-    default: *kind = one_in(c, 2) ? odd_word(c) : between(c, 1, 4); break;
-    }
-}
-
-static void call_any_rewrite(struct run *r)
-{
-    word named[16], count = between(&r->chance, 0, 13);
-    for (word i = 0; i < count; i++) named[i] = one_in(&r->chance, 9) ? odd_word(&r->chance) : draw(&r->chance) % 14;
-    emit_rewrite(r, one_in(&r->chance, 3) ? odd_word(&r->chance) : between(&r->chance, 1, 4), named, count);
-}
-
-static void call_fitting_rewrite(struct run *r, word kind)
-{
-    word named[16], count;
-    if (!desk_stands(r) || !find_fitting(r->bench.lent, &r->chance, kind, named, &count)) {
-        if (one_in(&r->chance, 4)) call_any_rewrite(r);
-        return;
-    }
-    if (one_in(&r->chance, 7)) spoil(&r->chance, &kind, named, &count);
-    emit_rewrite(r, kind, named, count);
-}
-
-static void call_to_search(struct run *r)
-{
-    struct chance *c = &r->chance;
-    bool small = desk_stands(r) && r->bench.lent[VARIABLES] <= 9;
-    word budget = small && one_in(c, 2) ? MOST_BUDGET : one_in(c, 2) ? between(c, 0, 14) : between(c, 0, 120);
-    emit_searches(r, budget);
-}
-
-static void call_to_weigh(struct run *r)
-{
-    struct chance *c = &r->chance;
-    word variables = one_in(c, 8) ? odd_word(c) : desk_stands(r) ? r->bench.lent[VARIABLES] : 3;
-    word reading = draw(c);
-    if (variables < MOST_VARIABLES && !one_in(c, 8)) reading %= (word)1 << variables;
-    emit(r, "weight %" PRIu64 " %" PRIu64, variables, reading);
-}
-
-static void call_any(struct run *r)
-{
-    switch (draw(&r->chance) % 20) {
-    case 0: case 1: call_decide(r); break;
-    case 2: case 3: case 4: call_fitting_rewrite(r, MERGE); break;
-    case 5: case 6: call_fitting_rewrite(r, SHIFT); break;
-    case 7: case 8: case 9: call_fitting_rewrite(r, CHAIN); break;
-    case 10: case 11: case 12: call_fitting_rewrite(r, FORK); break;
-    case 13: call_any_rewrite(r); break;
-    case 14: case 15: case 16: emit(r, "back"); break;
-    case 17: emit_bounds(r); break;
-    case 18: call_to_search(r); break;
-    default:
-        if (one_in(&r->chance, 2)) emit(r, "wellformed");
-        else call_to_weigh(r);
-    }
-}
-
-static void call_many(struct run *r, word calls)
-{
-    for (; calls > 0; calls--) call_any(r);
-}
-
-static void take_all_back(struct run *r)
-{
-    for (word i = desk_stands(r) ? r->bench.lent[STEPS] + 1 : 2; i > 0; i--) emit(r, "back");
-}
+#include "emitting.c"
 
 /* --- families of runs --- */
 
@@ -233,13 +60,13 @@ static void run_long_links(struct run *r)
     take_all_back(r);
 }
 
-/* Shifts there and back until 256 steps stand, each of two new rows. */
+/* Shifts there and back until as many steps stand as may, each of two new rows. */
 static void run_ledger(struct run *r)
 {
     struct draft d = {.variables = 2};
     add_row(&d, unit_row(1), 5);
     add_row(&d, pair_row(-1, 2), 5);
-    start_desk(r, &d, between(&r->chance, 505, 1022), 1);
+    start_desk(r, &d, between(&r->chance, 2 * MOST_STEPS - 7, 4 * MOST_STEPS - 2), 1);
     emit(r, "rewrite 2 0 1");
     for (int i = 1; i < MOST_STEPS - (int)(draw(&r->chance) % 3); i++) emit(r, "rewrite 2 %d %d", 2 * i + 1, 2 * i);
     emit(r, "decide 1");
@@ -325,17 +152,18 @@ static void spoil_table(struct chance *c, struct draft *d, word *count)
     }
 }
 
+/* Few rows, or as many as may be loaded and a few more or less. */
 static void run_loads(struct run *r)
 {
     struct chance *c = &r->chance;
     for (int i = 0; i < 12; i++) {
         struct draft d = {.variables = between(c, 0, 7)};
-        add_mixed_rows(c, &d, one_in(c, 9) ? between(c, 509, 515) : between(c, 0, 12), 5);
+        add_mixed_rows(c, &d, one_in(c, 20) ? between(c, MOST_LOADED - 3, MOST_LOADED + 3) : between(c, 0, 12), 5);
         word count = ROW_WORDS * d.rows, capacity = one_in(c, 3) ? odd_word(c) : d.rows + draw(c) % 4 - 1;
         for (word n = draw(c) % 3; n > 0; n--) spoil_table(c, &d, &count);
         emit_table(r, d.words, count);
         word size = capacity <= MOST_CAPACITY ? desk_size(capacity) : desk_size(MOST_CAPACITY);
-        word fill = odd_word(c), room = one_in(c, 2) ? (word)20000 : between(c, 0, 400);
+        word fill = odd_word(c), room = one_in(c, 2) ? 40 * (d.rows + 1) : between(c, 0, 400);
         emit(r, "lend %" PRIu64 " %" PRIu64, one_in(c, 6) ? draw(c) % 4200 : size + draw(c) % 3 - 1, fill);
         emit(r, "load %" PRIu64 " %" PRIu64, one_in(c, 8) ? odd_word(c) : d.variables, capacity);
         emit(r, "weight %" PRIu64 " %" PRIu64, d.variables, draw(c) % 256);

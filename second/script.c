@@ -5,7 +5,7 @@
 
    Settings, which print nothing:
      table W...            the table's words from here on (any count, none too)
-     text HEX              the text's bytes from here on, two digits each; `text` alone is the empty text
+     text HEX              the text's bytes from here on, two digits each (0 to 9, a to f); `text` alone is the empty text
      lend COUNT FILL       lends COUNT words, each FILL
      reach COUNT           calls are lent only the first COUNT of them (at most all); `lend` ends this
      poke INDEX VALUE      sets one of the lent words
@@ -165,6 +165,13 @@ static void show_change(FILE *out, struct refusal no, const struct bench *b)
     show_outcome(out, no, "ok", bench_check(b));
 }
 
+/* -1 for what is no digit. */
+static int hex_digit(char c)
+{
+    if (c >= '0' && c <= '9') return c - '0';
+    return c >= 'a' && c <= 'f' ? c - 'a' + 10 : -1;
+}
+
 static void set_text(struct bench *b, struct line *l)
 {
     at_end(l);
@@ -174,10 +181,9 @@ static void set_text(struct bench *b, struct line *l)
     b->text = room_for(digits / 2);
     b->text_length = digits / 2;
     for (size_t i = 0; i < digits / 2; i++) {
-        unsigned byte;
-        char pair[3] = {l->at[2 * i], l->at[2 * i + 1], 0};
-        if (sscanf(pair, "%2x", &byte) != 1) l->broken = true;
-        else b->text[i] = (unsigned char)byte;
+        int high = hex_digit(l->at[2 * i]), low = hex_digit(l->at[2 * i + 1]);
+        if (high < 0 || low < 0) l->broken = true;
+        b->text[i] = (unsigned char)(16 * high + low);
     }
     l->at += digits;
 }

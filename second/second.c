@@ -2,6 +2,7 @@
 
      second answer < TEXT                      the program's answer
      second answer FILE..                      each file's, to FILE.expected
+     second copy < TEXT                        the text's table written anew, or nothing where that is refused; or FILE.., to FILE.copied
      second wcnf < TEXT                        the front door's answer to a competition file; or FILE.., to FILE.expected
      second wcnf-read < TEXT                   `ok VARS CLAUSES` and the words of each row, or `refused NUMBER PLACE`; or FILE.., to FILE.read
      second wcnf-copy < TEXT                   the table written anew, or nothing where that is refused; or FILE.., to FILE.copied
@@ -45,6 +46,21 @@ static int run_answer(FILE *in, FILE *to)
     bool whole = fwrite(out, 1, written, to) == written;
     free(input);
     return whole ? 0 : 2;
+}
+
+static int run_copy(FILE *in, FILE *to)
+{
+    static word words[ROW_WORDS * MOST_LOADED];
+    static char text[MOST_TEXT];
+    struct header head;
+    size_t length, written;
+    char *input = read_all(in, &length);
+    struct refusal no = read_text((const unsigned char *)input, length, (struct lent){words, ROW_WORDS * MOST_LOADED}, &head);
+    free(input);
+    if (no.number != 0) return 0;
+    struct table t = {head.variables, words, ROW_WORDS * head.rows};
+    if (write_text(t, head.budget, text, sizeof text, &written).number != 0) return 0;
+    return fwrite(text, 1, written, to) == written ? 0 : 2;
 }
 
 static int run_wcnf(FILE *in, FILE *to)
@@ -152,6 +168,7 @@ static int run_vectors(const char *name, const char *dir)
 int main(int count, char **words)
 {
     if (count >= 2 && strcmp(words[1], "answer") == 0) return run_on(run_answer, words + 2, "expected");
+    if (count >= 2 && strcmp(words[1], "copy") == 0) return run_on(run_copy, words + 2, "copied");
     if (count >= 2 && strcmp(words[1], "wcnf") == 0) return run_on(run_wcnf, words + 2, "expected");
     if (count >= 2 && strcmp(words[1], "wcnf-read") == 0) return run_on(run_wcnf_read, words + 2, "read");
     if (count >= 2 && strcmp(words[1], "wcnf-copy") == 0) return run_on(run_wcnf_copy, words + 2, "copied");
@@ -160,7 +177,7 @@ int main(int count, char **words)
     if (count == 2 && strcmp(words[1], "selftest") == 0) return selftest();
     if (count == 3 && strcmp(words[1], "vectors") == 0) return run_vectors(words[2], NULL);
     if (count == 4 && strcmp(words[1], "scripts") == 0) return run_vectors(words[2], words[3]);
-    fputs("second answer|desk|wcnf|wcnf-read|wcnf-copy [FILE..] | generate [full-]texts|[full-|group-]runs|wcnf|wcnf-runs SEED COUNT DIR | selftest | vectors FILE |"
+    fputs("second answer|copy|desk|wcnf|wcnf-read|wcnf-copy [FILE..] | generate [full-]texts|[full-|group-]runs|wcnf|wcnf-runs SEED COUNT DIR | selftest | vectors FILE |"
           " scripts FILE DIR\n", stderr);
     return 2;
 }

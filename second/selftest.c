@@ -209,29 +209,72 @@ static void check_texts(struct tally *t)
     check(t, answers("vars=1\nbudget=9\nrows=1\nweight=7\nlits=\n\n", "status=refused\nnumber=20\nplace=6\n"), "surplus");
     check(t, answers("vars=65\nbudget=9\nrows=1\n", "status=refused\nnumber=1\nplace=0\n"), "1 before the rest");
     check(t, answers("vars=1\nbudget=4294967296\nrows=999\n", "status=refused\nnumber=9\nplace=0\n"), "9 before 2");
-    check(t, answers("vars=1\nbudget=9\nrows=513\n", "status=refused\nnumber=2\nplace=0\n"), "2");
     check(t, answers("vars=1\nbudget=9\nrows=2\nweight=1\nlits=\nweight=0\nlits=2\n",
                      "status=refused\nnumber=5\nplace=1\n"), "5 before 6, place a row");
     check(t, answers("vars=2\nbudget=9\nrows=2\nweight=1\nlits=\nweight=0\nlits=2\n",
                      "status=refused\nnumber=6\nplace=1\n"), "6");
     static char large[MOST_INPUT + 2];
     memset(large, 'x', MOST_INPUT + 1);
-    check(t, answers(large, "status=refused\nnumber=19\nplace=0\n"), "65,537 bytes");
+    check(t, answers(large, "status=refused\nnumber=19\nplace=0\n"), "a byte too many");
     large[MOST_INPUT] = 0;
-    check(t, answers(large, "status=refused\nnumber=20\nplace=1\n"), "65,536 bytes");
+    check(t, answers(large, "status=refused\nnumber=20\nplace=1\n"), "as many bytes as may be");
 }
 
-/* The longest text that can be written: 54 weights of 8 digits and 458 of 7. */
+static const word row_limits[] = {MOST_INPUT_ROWS - 1, MOST_INPUT_ROWS, MOST_INPUT_ROWS + 1, MOST_LOADED - 1, MOST_LOADED, MOST_LOADED + 1};
+enum { ROW_LIMITS = sizeof row_limits / sizeof *row_limits };
+
+/* A text with so many rows by its heads, or as many as that in it: empty ones of weight 1. */
+static const char *text_of_rows(const char *heads, word rows, bool whole)
+{
+    static char text[60 + 15 * MOST_DRAFTED];
+    size_t at = (size_t)sprintf(text, "%srows=%" PRIu64 "\n", heads, rows);
+    for (word r = 0; whole && r < rows; r++) at += (size_t)sprintf(text + at, "weight=1\nlits=\n");
+    return text;
+}
+
+static bool answers_refusal(const char *input, unsigned number, word place)
+{
+    char output[80];
+    sprintf(output, "status=refused\nnumber=%u\nplace=%" PRIu64 "\n", number, place);
+    return answers(input, output);
+}
+
+static struct refusal read_into(const char *text, word room)
+{
+    static word words[ROW_WORDS * MOST_LOADED];
+    struct header head;
+    return read_text((const unsigned char *)text, strlen(text), (struct lent){words, room}, &head);
+}
+
+/* The program takes fewer rows than the reader, and refuses more of them where the reader would. */
+static void check_row_limits(struct tally *t)
+{
+    for (int i = 0; i < ROW_LIMITS; i++) {
+        word rows = row_limits[i];
+        bool read = rows <= MOST_LOADED, answered = rows <= MOST_INPUT_ROWS;
+        char output[100];
+        sprintf(output, "status=done\nweight=%" PRIu64 "\nnodes=1\nreading=\nconceded=0\nlost=%" PRIu64 "\nforeseen=0\n", rows, rows);
+        const char *text = text_of_rows("vars=0\nbudget=1\n", rows, true);
+        check(t, is(read_into(text, ROW_WORDS * MOST_LOADED), read ? 0 : 2, 0), "whole, read");
+        check(t, answered ? answers(text, output) : answers_refusal(text, 2, 0), "whole, answered");
+        text = text_of_rows("vars=0\nbudget=1\n", rows, false);
+        check(t, is(read_into(text, ROW_WORDS * MOST_LOADED), read ? 20 : 2, read ? 4 : 0), "2 before 20 in the rows, read");
+        check(t, answers_refusal(text, answered ? 20 : 2, answered ? 4 : 0), "2 before 20 in the rows, answered");
+        check(t, is(read_into(text, 0), read ? 4 : 2, 0), "2 before 4");
+        check(t, answers_refusal(text_of_rows("vars=65\nbudget=1\n", rows, true), 1, 0), "1 before 2");
+        check(t, answers_refusal(text_of_rows("vars=0\nbudget=4294967296\n", rows, true), 9, 0), "9 before 2");
+        check(t, answers_refusal(text_of_rows("vars=0\nbudget=1\n\n", rows, true), 20, 3), "20 in the heads before 2");
+    }
+}
+
 static void check_longest_text(struct tally *t)
 {
     static char out[MOST_TEXT];
-    struct draft d = {.variables = MOST_VARIABLES};
-    struct clause all = {0};
+    static struct draft d;
     size_t length = 0;
-    for (int v = 1; v <= MOST_VARIABLES; v++) all.literals[all.count++] = (signed char)-v;
-    for (int r = 0; r < MOST_LOADED; r++) add_row(&d, all, r < 54 ? 10000000 : 1000000);
-    check(t, is(write_text(table_of(&d), MOST_BUDGET, out, 136793, &length), 0, 0) && length == 136793, "its length");
-    check(t, is(write_text(table_of(&d), MOST_BUDGET, out, 136792, &length), 4, 0), "one byte less is 4");
+    draft_longest(&d);
+    check(t, is(write_text(table_of(&d), MOST_BUDGET, out, MOST_TEXT, &length), 0, 0) && length == MOST_TEXT, "its length");
+    check(t, is(write_text(table_of(&d), MOST_BUDGET, out, MOST_TEXT - 1, &length), 4, 0), "one byte less is 4");
 }
 
 /* --- scripts: what is printed, and that the checksum is of the words after the call --- */
@@ -293,6 +336,7 @@ static int selftest(void)
     end_family(&t);
     begin_family(&t, "texts and answers");
     check_texts(&t);
+    check_row_limits(&t);
     check_longest_text(&t);
     end_family(&t);
     begin_family(&t, "scripts");

@@ -82,7 +82,8 @@ static bool take_rows(struct cursor *c, word rows, word *words)
     return c->at == c->length;
 }
 
-struct refusal read_text(const unsigned char *text, size_t length, struct lent out, struct header *head)
+/* A text of so many rows at most. */
+static struct refusal read_within(word most, const unsigned char *text, size_t length, struct lent out, struct header *head)
 {
     struct cursor c = {text, length, 0, 1};
     word variables, budget, rows, words[ROW_WORDS * MOST_LOADED];
@@ -91,12 +92,17 @@ struct refusal read_text(const unsigned char *text, size_t length, struct lent o
         return refused_at(20, c.line);
     if (variables > MOST_VARIABLES) return refused(1);
     if (budget > MOST_BUDGET) return refused(9);
-    if (rows > MOST_LOADED) return refused(2);
+    if (rows > most) return refused(2);
     if (out.count < ROW_WORDS * rows) return refused(4);
     if (!take_rows(&c, rows, words)) return refused_at(20, c.line);
     for (word i = 0; i < ROW_WORDS * rows; i++) out.words[i] = words[i];
     *head = (struct header){variables, (uint32_t)budget, rows};
     return accepted();
+}
+
+struct refusal read_text(const unsigned char *text, size_t length, struct lent out, struct header *head)
+{
+    return read_within(MOST_LOADED, text, length, out, head);
 }
 
 /* Text being made; it is long enough for what an admissible table or an answer can need. */
@@ -181,10 +187,10 @@ static void put_found(struct page *p, word variables, const struct found *f, con
 
 static struct refusal solve(const unsigned char *input, size_t length, word *variables, struct found *f, struct losses *root)
 {
-    static word words[ROW_WORDS * MOST_LOADED], desk[MOST_DESK];
+    static word words[ROW_WORDS * MOST_INPUT_ROWS], desk[MOST_DESK];
     struct header head;
     if (length > MOST_INPUT) return refused(19);
-    struct refusal no = read_text(input, length, (struct lent){words, ROW_WORDS * MOST_LOADED}, &head);
+    struct refusal no = read_within(MOST_INPUT_ROWS, input, length, (struct lent){words, ROW_WORDS * MOST_INPUT_ROWS}, &head);
     if (no.number != 0) return no;
     struct table t = {head.variables, words, ROW_WORDS * head.rows};
     no = load((struct lent){desk, MOST_DESK}, t, head.rows);

@@ -122,11 +122,13 @@ static word draft_wide(struct chance *c, struct draft *d)
     return between(c, 0, 400);
 }
 
+/* About as many rows as the program takes, or as the reader does. */
 static word draft_full(struct chance *c, struct draft *d)
 {
     d->variables = between(c, 1, MOST_VARIABLES);
     word length = between(c, 0, 6);
-    add_random_rows(c, d, between(c, 505, MOST_LOADED + 2), length, 1000);
+    word rows = one_in(c, 5) ? between(c, MOST_LOADED - 3, MOST_LOADED + 2) : between(c, MOST_INPUT_ROWS - 7, MOST_INPUT_ROWS + 2);
+    add_random_rows(c, d, rows, length, 1000);
     return between(c, 0, 60);
 }
 

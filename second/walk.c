@@ -9,14 +9,16 @@ struct sheet {
     word weights[MOST_CAPACITY];
 };
 
-static struct sheet sheet_of(const word *desk)
+/* Only the rows in use are written, since a sheet is long. */
+static void fill_sheet(struct sheet *s, const word *desk)
 {
-    struct sheet s = {.conceded = desk[CONCEDED], .variables = (int)desk[VARIABLES], .count = (int)desk[IN_USE]};
-    for (int r = 0; r < s.count; r++) {
-        s.rows[r] = clause_of(desk_row(desk, (word)r));
-        s.weights[r] = desk_row(desk, (word)r)[2];
+    s->conceded = desk[CONCEDED];
+    s->variables = (int)desk[VARIABLES];
+    s->count = (int)desk[IN_USE];
+    for (int r = 0; r < s->count; r++) {
+        s->rows[r] = clause_of(desk_row(desk, (word)r));
+        s->weights[r] = desk_row(desk, (word)r)[2];
     }
-    return s;
 }
 
 static word lost_beyond(const struct sheet *s, const struct partial *p)
@@ -53,22 +55,24 @@ static struct losses losses_under(const struct sheet *s, word choice, const stru
 
 word lost(const word *desk)
 {
-    struct sheet s = sheet_of(desk);
+    static struct sheet s;
     struct partial p = standing(desk);
+    fill_sheet(&s, desk);
     return s.conceded + lost_beyond(&s, &p);
 }
 
 struct refusal bound(struct lent desk, word choice, struct losses *answer)
 {
     if (!well_formed(desk)) return refused(10);
-    struct sheet s = sheet_of(desk.words);
+    static struct sheet s;
     struct partial p = standing(desk.words);
+    fill_sheet(&s, desk.words);
     *answer = losses_under(&s, choice, &p);
     return accepted();
 }
 
 struct walk {
-    struct sheet sheet;
+    const struct sheet *sheet;
     word choice;
     word best;
     bool kept;
@@ -81,7 +85,7 @@ struct walk {
 /* 0 when every variable is fixed. */
 static int next_variable(const struct walk *w, const struct partial *p)
 {
-    for (int v = 1; v <= w->sheet.variables; v++)
+    for (int v = 1; v <= w->sheet->variables; v++)
         if (p->value[v] == 0) return v;
     return 0;
 }
@@ -108,7 +112,7 @@ static void visit(struct walk *w, struct partial p)
         return;
     }
     w->nodes++;
-    struct losses l = losses_under(&w->sheet, w->choice, &p);
+    struct losses l = losses_under(w->sheet, w->choice, &p);
     word b = l.conceded + l.lost + l.foreseen;
     if (b >= w->best) return;
     int v = next_variable(w, &p);
@@ -125,7 +129,9 @@ static void visit(struct walk *w, struct partial p)
 struct refusal search(struct lent desk, word choice, uint32_t budget, struct found *answer)
 {
     if (!well_formed(desk)) return refused(10);
-    struct walk w = {.sheet = sheet_of(desk.words), .choice = choice, .budget = budget};
+    static struct sheet s;
+    struct walk w = {.sheet = &s, .choice = choice, .budget = budget};
+    fill_sheet(&s, desk.words);
     w.best = (word)conceded_and_weights(desk.words, desk.words[IN_USE]) + 1;
     visit(&w, standing(desk.words));
     *answer = (struct found){!w.stopped, w.kept, w.kept ? w.best : 0, w.reading, w.nodes};

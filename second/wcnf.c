@@ -46,14 +46,15 @@ static bool take_clause(struct cursor *c, word variables, word *row, bool *fits)
     return take_end(c);
 }
 
-struct refusal read_wcnf(const unsigned char *text, size_t length, struct lent out, struct figures *figures)
+/* A file of so many clauses at most. */
+static struct refusal read_wcnf_within(word most, const unsigned char *text, size_t length, struct lent out, struct figures *figures)
 {
     struct cursor c = {text, length, 0, 1};
     struct figures f;
     word words[ROW_WORDS * MOST_LOADED];
     if (!take_figures(&c, &f)) return refused_at(20, c.line);
     if (f.variables > MOST_VARIABLES) return refused(1);
-    if (f.clauses > MOST_LOADED) return refused(2);
+    if (f.clauses > most) return refused(2);
     if (out.count < ROW_WORDS * f.clauses) return refused(4);
     for (word r = 0; r < f.clauses; r++) {
         bool fits;
@@ -66,6 +67,11 @@ struct refusal read_wcnf(const unsigned char *text, size_t length, struct lent o
     for (word i = 0; i < ROW_WORDS * f.clauses; i++) out.words[i] = words[i];
     *figures = f;
     return accepted();
+}
+
+struct refusal read_wcnf(const unsigned char *text, size_t length, struct lent out, struct figures *figures)
+{
+    return read_wcnf_within(MOST_LOADED, text, length, out, figures);
 }
 
 /* Each with a space before it. */
@@ -132,10 +138,10 @@ static void put_competition_found(struct page *p, word variables, const struct f
 
 static struct refusal solve_wcnf(const unsigned char *input, size_t length, uint32_t budget, word *variables, struct found *f)
 {
-    static word words[ROW_WORDS * MOST_LOADED], desk[MOST_DESK];
+    static word words[ROW_WORDS * MOST_INPUT_ROWS], desk[MOST_DESK];
     struct figures figures;
     if (length > MOST_INPUT) return refused(19);
-    struct refusal no = read_wcnf(input, length, (struct lent){words, ROW_WORDS * MOST_LOADED}, &figures);
+    struct refusal no = read_wcnf_within(MOST_INPUT_ROWS, input, length, (struct lent){words, ROW_WORDS * MOST_INPUT_ROWS}, &figures);
     if (no.number != 0) return no;
     struct table t = {figures.variables, words, ROW_WORDS * figures.clauses};
     no = load((struct lent){desk, MOST_DESK}, t, figures.clauses);

@@ -32,7 +32,6 @@ static void check_reader_by_hand(struct tally *t)
     check(t, reads("p wcnf 64 1 9999999999\n4000000000 64 0\n", 64, "4000000000: 64"), "a weight that load refuses is read");
     check(t, read_is("", 20, 1) && read_is("c", 20, 1) && read_is("c\n", 20, 2) && read_is("p wcnf 0 0 0", 20, 1), "a missing header");
     check(t, read_is("c\nc\np wcnf 1 1\n", 20, 3) && read_is("c\n\np wcnf 0 0 0\n", 20, 2), "a broken header, by its line");
-    check(t, read_is("p wcnf 65 513 0\n", 1, 0) && read_is("p wcnf 64 513 0\n", 2, 0) && read_is("p wcnf 64 512 0\n", 20, 2), "1, 2, 20");
     check(t, read_is("p wcnf 1 2 9\n1 2 0\n1 1\n", 5, 0) && read_is("p wcnf 1 2 9\n1 1 0\n1 1\n", 20, 3), "line by line");
     check(t, read_is("p wcnf 1 1 9\n9 2 0 \n", 20, 2) && read_is("p wcnf 1 1 9\n9 2 0\n", 5, 0) && read_is("p wcnf 1 1 9\n9 1 0\n", 21, 0),
           "in one line 20, 5, 21");
@@ -64,9 +63,46 @@ static void check_door(struct tally *t)
     check(t, door_answers("p wcnf 1 2 8\n1 0\n0 1 0\n", MOST_BUDGET, "c refused: number 6, place 1\ns UNKNOWN\n"), "weight 0");
     check(t, door_answers("p wcnf 1 2 1000000001\n1000000000 1 0\n1 -1 0\n", MOST_BUDGET, "c refused: number 7, place 0\ns UNKNOWN\n"), "P10");
     memset(large, 'c', MOST_INPUT + 1);
-    check(t, door_answers(large, MOST_BUDGET, "c refused: number 19, place 0\ns UNKNOWN\n"), "65,537 bytes");
+    check(t, door_answers(large, MOST_BUDGET, "c refused: number 19, place 0\ns UNKNOWN\n"), "a byte too many");
     large[MOST_INPUT] = 0;
-    check(t, door_answers(large, MOST_BUDGET, "c refused: number 20, place 1\ns UNKNOWN\n"), "65,536 bytes");
+    check(t, door_answers(large, MOST_BUDGET, "c refused: number 20, place 1\ns UNKNOWN\n"), "as many bytes as may be");
+}
+
+/* A file with so many clauses by its header, or as many as that in it: empty ones of weight 1. */
+static const char *file_of_clauses(const char *variables, word clauses, bool whole)
+{
+    static char text[60 + 4 * MOST_DRAFTED];
+    size_t at = (size_t)sprintf(text, "p wcnf %s %" PRIu64 " 9\n", variables, clauses);
+    for (word i = 0; whole && i < clauses; i++) at += (size_t)sprintf(text + at, "1 0\n");
+    return text;
+}
+
+static bool door_gives(const char *input, unsigned number, word place)
+{
+    char output[80];
+    sprintf(output, "c refused: number %u, place %" PRIu64 "\ns UNKNOWN\n", number, place);
+    return door_answers(input, MOST_BUDGET, output);
+}
+
+/* The front door takes fewer clauses than the reader, and refuses more of them where the reader would. */
+static void check_clause_limits(struct tally *t)
+{
+    for (int i = 0; i < ROW_LIMITS; i++) {
+        word clauses = row_limits[i];
+        bool read = clauses <= MOST_LOADED, answered = clauses <= MOST_INPUT_ROWS;
+        char output[80];
+        sprintf(output, "c nodes 1\no %" PRIu64 "\ns OPTIMUM FOUND\nv\n", clauses);
+        const char *text = file_of_clauses("0", clauses, true);
+        check(t, read_is(text, read ? 0 : 2, 0), "whole, read");
+        check(t, answered ? door_answers(text, MOST_BUDGET, output) : door_gives(text, 2, 0), "whole, answered");
+        text = file_of_clauses("0", clauses, false);
+        check(t, read_is(text, read ? 20 : 2, read ? 2 : 0), "2 before 20 in the clauses, read");
+        check(t, door_gives(text, answered ? 20 : 2, answered ? 2 : 0), "2 before 20 in the clauses, answered");
+        text = file_of_clauses("65", clauses, true);
+        check(t, read_is(text, 1, 0) && door_gives(text, 1, 0), "1 before 2");
+        text = file_of_clauses("-1", clauses, true);
+        check(t, read_is(text, 20, 1) && door_gives(text, 20, 1), "20 in the header before 2");
+    }
 }
 
 static struct refusal write_draft(const struct draft *d, size_t room, size_t *length)
@@ -90,8 +126,7 @@ static bool write_is(word variables, const char *rows, unsigned number, word pla
 
 static void check_writer_by_hand(struct tally *t)
 {
-    struct draft d = {.variables = MOST_VARIABLES};
-    struct clause all = {0};
+    static struct draft d;
     size_t length = 0;
     check(t, writes(0, "", "p wcnf 0 0 1\n"), "nothing at all");
     check(t, writes(3, "5: 3 -1; 2:", "p wcnf 3 2 8\n5 -1 3 0\n2 0\n"), "rising, and top is the sum and one");
@@ -99,13 +134,11 @@ static void check_writer_by_hand(struct tally *t)
     check(t, write_is(65, "0: 1", 1, 0) && write_is(1, "1:; 1: 2", 5, 1) && write_is(1, "1: 1 -1", 5, 0), "1 and 5");
     check(t, write_is(1, "1:; 0: 1", 6, 1) && write_is(1, "1000000001:", 6, 0) && write_is(1, "0:; 1: 2", 6, 0), "6");
     check(t, write_is(1, "1000000000: 1; 1: 1", 7, 0) && write_is(1, "1: 1", 4, 0), "7 and 4");
-    for (int v = 1; v <= MOST_VARIABLES; v++) all.literals[all.count++] = (signed char)-v;
-    for (int r = 0; r < MOST_LOADED; r++) add_row(&d, all, r < 54 ? 10000000 : 1000000);
-    d.words[2] += 2000000;
-    check(t, is(write_draft(&d, 131663, &length), 0, 0) && length == 131663, "the longest text");
-    check(t, is(write_draft(&d, 131662, &length), 4, 0), "one byte less is 4");
-    add_row(&d, all, 1);
-    check(t, is(write_draft(&d, 0, &length), 2, 0), "513 rows");
+    draft_longest(&d);
+    check(t, is(write_draft(&d, MOST_FILE, &length), 0, 0) && length == MOST_FILE, "the longest text");
+    check(t, is(write_draft(&d, MOST_FILE - 1, &length), 4, 0), "one byte less is 4");
+    add_row(&d, unit_row(1), 1);
+    check(t, is(write_draft(&d, 0, &length), 2, 0), "one row too many");
 }
 
 /* --- on random tables --- */
@@ -189,6 +222,7 @@ static void check_competitions(struct tally *t)
     begin_family(t, "competition files, by hand");
     check_reader_by_hand(t);
     check_door(t);
+    check_clause_limits(t);
     check_writer_by_hand(t);
     end_family(t);
     begin_family(t, "one table in every manner");

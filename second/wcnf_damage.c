@@ -1,5 +1,6 @@
 /* Part of wcnf_texts.c: named ways to break a competition file, each with the refusal that it must earn. Most are a template for one line, in
-   which $ is the count of variables, # that of clauses, ^ top, & the clause's weight, % the first variable above the count, 1 a 0 byte.
+   which $ is the count of variables, # that of clauses, @ one clause more than any reader takes, ^ top, & the clause's weight, % the first
+   variable above the count, 1 a 0 byte.
    A break is met `later` lines behind the one that the template replaces. */
 
 struct competition_damage {
@@ -32,10 +33,10 @@ static const struct competition_damage header_damages[] = {
     {"remark", "p wcnf $ # ^ c", 20, 0},         {"two-lines", "p wcnf $ #\n^", 20, 0},
     {"blank-before", "\np wcnf $ # ^", 20, 0},   {"blank-after", "p wcnf $ # ^\n", 20, 1},
     {"comment-behind", "p wcnf $ # ^\nc", 20, 1}, {"break-before-1", "p wcnf 65 # ^ ", 20, 0},
-    {"break-before-2", "p wcnf $ 513 -^", 20, 0}, {"variables-65", "p wcnf 65 # ^", 1, 0},
+    {"break-before-2", "p wcnf $ @ -^", 20, 0},  {"variables-65", "p wcnf 65 # ^", 1, 0},
     {"variables-ten-digits", "p wcnf 9999999999 # ^", 1, 0}, {"variables-wrap-32", "p wcnf 4294967298 # ^", 1, 0},
-    {"clauses-513", "p wcnf $ 513 ^", 2, 0},     {"clauses-ten-digits", "p wcnf $ 9999999999 ^", 2, 0},
-    {"clauses-wrap-32", "p wcnf $ 4294967297 ^", 2, 0}, {"1-before-2", "p wcnf 65 513 0", 1, 0},
+    {"clauses-one-too-many", "p wcnf $ @ ^", 2, 0}, {"clauses-ten-digits", "p wcnf $ 9999999999 ^", 2, 0},
+    {"clauses-wrap-32", "p wcnf $ 4294967297 ^", 2, 0}, {"1-before-2", "p wcnf 65 @ 0", 1, 0},
     {"top-zero", "p wcnf $ # 0", 21, 0},
 };
 
@@ -93,7 +94,8 @@ static void fill_line(const struct broken *b, const char *template, word weight,
     for (; *template != 0; template++) {
         word number = *template == '$' ? b->d.variables : *template == '#' ? b->d.rows : *template == '^' ? b->top : weight;
         if (*template == '%') number = b->d.variables + 1;
-        if (strchr("$#^&%", *template) != NULL) line += sprintf(line, "%" PRIu64, number);
+        if (*template == '@') number = MOST_LOADED + 1;
+        if (strchr("$#@^&%", *template) != NULL) line += sprintf(line, "%" PRIu64, number);
         else *line++ = *template;
     }
     *line = 0;
@@ -193,7 +195,7 @@ static word damage_twice(struct chance *c, const char *name, struct broken *b)
     else if (strcmp(name, "5-before-missing") == 0) set_clause(b, first, above), b->w->l.count--;
     else if (strcmp(name, "top-and-weight-zero") == 0) set_header(b, "p wcnf $ # 0"), set_clause(b, first, "0 1 0");
     else if (strcmp(name, "1-before-clauses") == 0) set_header(b, "p wcnf 65 # ^"), set_clause(b, first, open);
-    else set_header(b, "p wcnf $ 513 ^"), set_clause(b, first, open);
+    else set_header(b, "p wcnf $ @ ^"), set_clause(b, first, open);
     return strncmp(name, "20", 2) == 0 ? line_of(b, b->w->header + 1) : (word)first;
 }
 
@@ -238,11 +240,11 @@ enum {
 
 /* --- a file, and one kind of damage --- */
 
-/* A few clauses, now and then with many comments before them, or nearly as many clauses as a file may have. */
+/* A few clauses, now and then with many comments before them, or nearly as many clauses as the front door takes. */
 static void make_whole(struct chance *c, struct broken *b)
 {
     b->d = (struct draft){.variables = one_in(c, 8) ? (word)MOST_VARIABLES : between(c, 2, 6)};
-    add_mixed_rows(c, &b->d, one_in(c, 8) ? MOST_LOADED - 1 : between(c, 2, 8), 9);
+    add_mixed_rows(c, &b->d, one_in(c, 8) ? MOST_INPUT_ROWS - 1 : between(c, 2, 8), 9);
     b->top = draw_top(c, &b->d);
     competition_of(c, b->w, &b->d, b->top, one_in(c, 2) ? ALL_MANNERS : PLAIN);
     if (b->d.rows < 10 && one_in(c, 6)) b->w->bare = between(c, 1, 30000);

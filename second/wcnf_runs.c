@@ -1,18 +1,11 @@
 /* Part of second.c: scripts that read and write competition files, each of them one of wcnf_texts.c's, into words and bytes that just hold
    what comes, or hold too little, or more. */
 
-static void emit_bytes(struct run *r, const unsigned char *bytes, size_t length)
-{
-    char *line = room_for(2 * length + 10), *at = line + sprintf(line, "text ");
-    for (size_t i = 0; i < length; i++) at += sprintf(at, "%02x", bytes[i]);
-    fprintf(r->out, "%s\n", line);
-    run_line(&r->bench, line, NULL);
-    free(line);
-}
-
 /* Into just enough words for so many clauses, into one less, and into more. */
 static void emit_readings(struct run *r, word clauses)
 {
+    const char *how_many = clauses > MOST_LOADED ? "too many clauses" : clauses == MOST_LOADED ? "most clauses"
+                           : clauses > MOST_INPUT_ROWS ? "more clauses than the front door takes" : "few clauses";
     word words = ROW_WORDS * (clauses > MOST_LOADED ? MOST_LOADED : clauses), fill = odd_word(&r->chance);
     meets(r, "just room");
     emit(r, "readwcnf %" PRIu64 " %" PRIu64, words, fill);
@@ -20,6 +13,7 @@ static void emit_readings(struct run *r, word clauses)
         meets(r, "a word short of room");
         emit(r, "readwcnf %" PRIu64 " %" PRIu64, words - 1, fill);
     }
+    meets(r, how_many);
     emit(r, "readwcnf %" PRIu64 " %" PRIu64, words + draw(&r->chance) % 9, fill);
 }
 
@@ -33,7 +27,7 @@ static void emit_writings(struct run *r, word variables, const word *words, word
     bool whole = write_wcnf((struct table){variables, words, count}, out, sizeof out, &length).number == 0;
     emit(r, "writewcnf %" PRIu64 " %zu 170", variables, length + draw(c) % 9);
     word others = one_in(c, 2) ? between(c, 0, 66) : odd_word(c);
-    emit(r, "writewcnf %" PRIu64 " %u 170", others, one_in(c, 2) ? 0 : MOST_TEXT);
+    emit(r, "writewcnf %" PRIu64 " %" PRIu64 " 170", others, one_in(c, 2) ? 0 : text_room(count / ROW_WORDS));
     if (!whole) return;
     meets(r, "just room");
     emit(r, "writewcnf %" PRIu64 " %zu 170", variables, length);
@@ -48,10 +42,10 @@ static void emit_odd_table(struct run *r)
 {
     static word words[ROW_WORDS * MOST_DRAFTED];
     struct chance *c = &r->chance;
-    word variables = between(c, 2, 65), count = one_in(c, 2) ? draw(c) % 30 : between(c, ROW_WORDS * 511, ROW_WORDS * 514);
+    word variables = between(c, 2, 65), count = one_in(c, 4) ? between(c, ROW_WORDS * (MOST_LOADED - 1), ROW_WORDS * (MOST_LOADED + 2)) : draw(c) % 30;
     for (word i = 0; i < count; i++) words[i] = i % ROW_WORDS == 2 ? between(c, 1, 9) : one_in(c, 40) ? odd_word(c) : draw(c) % 4 & (i % 2 + 1);
     emit_table(r, words, count);
-    emit(r, "writewcnf %" PRIu64 " %u 85", variables, one_in(c, 9) ? 9 : MOST_TEXT);
+    emit(r, "writewcnf %" PRIu64 " %" PRIu64 " 85", variables, one_in(c, 9) ? 9 : text_room(count / ROW_WORDS));
 }
 
 static int generate_competition_runs(word seed, int count, const char *dir)

@@ -142,12 +142,12 @@ static word draft_empty_rows(struct chance *c, struct draft *d)
     return 0;
 }
 
-/* Up to 64 variables and 512 rows: whatever its other rows are, a variable has a sign in a row that weighs more than all of them. */
+/* Up to as many variables and rows as may be: whatever its other rows are, a variable has a sign in a row that weighs more than all of them. */
 static word draft_steady(struct chance *c, struct draft *d)
 {
     d->variables = one_in(c, 2) ? (word)MOST_VARIABLES : between(c, 1, 63);
-    word rows = one_in(c, 2) ? (word)MOST_LOADED : between(c, d->variables, 511);
-    for (int v = 1; (word)v <= d->variables; v++) add_row(d, unit_row(one_in(c, 2) ? v : -v), MOST_LOADED * (word)v);
+    word rows = one_in(c, 2) ? (word)MOST_INPUT_ROWS : between(c, d->variables, MOST_INPUT_ROWS - 1);
+    for (int v = 1; (word)v <= d->variables; v++) add_row(d, unit_row(one_in(c, 2) ? v : -v), MOST_INPUT_ROWS * (word)v);
     while (d->rows < rows) add_random_rows(c, d, 1, one_in(c, 50) ? (word)MOST_VARIABLES : between(c, 0, 6), 1);
     return 0;
 }
@@ -164,11 +164,11 @@ static word draft_both_ways(struct chance *c, struct draft *d)
     return 0;
 }
 
-/* As many clauses as there may be, of which one of the last is 5, or 6, or weighs more than the others. */
+/* As many clauses as the front door takes, or as the reader does, of which one of the last is 5, or 6, or weighs more than the others. */
 static word draft_late(struct chance *c, struct draft *d)
 {
     d->variables = between(c, 2, 6);
-    add_mixed_rows(c, d, MOST_LOADED, 9);
+    add_mixed_rows(c, d, one_in(c, 4) ? MOST_LOADED : MOST_INPUT_ROWS, 9);
     word *row = d->words + ROW_WORDS * (d->rows - between(c, 1, 5)), how = draw(c) % 3;
     if (how == 0) row[draw(c) % 2] |= (word)1 << d->variables;
     if (how == 1) row[2] = 0;
@@ -183,13 +183,15 @@ static word late_top(struct chance *c, const struct draft *d)
     return 10;
 }
 
-/* Figures at the limits and past them: 1 and 2, and what is just right. */
+/* Figures at the limits and past them, the front door's and the reader's: 1 and 2, and what is just right. */
 static word draft_figures(struct chance *c, struct draft *d)
 {
-    static const word variables[] = {63, 64, 65, 66, 4294967296, 9999999999}, rows[] = {511, 512, 513, 514};
+    static const word variables[] = {63, 64, 65, 66, 4294967296, 9999999999};
+    static const word rows[] = {MOST_INPUT_ROWS - 1, MOST_INPUT_ROWS, MOST_INPUT_ROWS + 1, MOST_INPUT_ROWS + 2, MOST_LOADED - 1,
+                                MOST_LOADED, MOST_LOADED + 1, MOST_LOADED + 2};
     d->variables = between(c, 1, 6);
-    add_mixed_rows(c, d, one_in(c, 2) ? rows[draw(c) % 4] : between(c, 0, 9), 9);
-    if (one_in(c, 2)) d->variables = variables[draw(c) % 6];
+    add_mixed_rows(c, d, one_in(c, 3) ? between(c, 0, 9) : rows[draw(c) % 8], 9);
+    if (one_in(c, 3)) d->variables = variables[draw(c) % 6];
     return 0;
 }
 

@@ -15,6 +15,13 @@
 
 #include "../second/script.c"
 
+_Static_assert(OLIKUMPASHO_MOST_VARIABLES == MOST_VARIABLES && OLIKUMPASHO_MOST_ROWS == MOST_LOADED && OLIKUMPASHO_MOST_CAPACITY == MOST_CAPACITY
+                   && OLIKUMPASHO_MOST_STEPS == MOST_STEPS && OLIKUMPASHO_MOST_WEIGHT == MOST_WEIGHT && OLIKUMPASHO_MOST_BUDGET == MOST_BUDGET
+                   && OLIKUMPASHO_MOST_NAMED == MOST_NAMED && OLIKUMPASHO_MOST_CHAIN == MOST_LINKS && OLIKUMPASHO_MOST_INPUT == MOST_INPUT
+                   && OLIKUMPASHO_MOST_INPUT_ROWS == MOST_INPUT_ROWS && OLIKUMPASHO_MOST_WRITTEN == MOST_TEXT
+                   && OLIKUMPASHO_MOST_WRITTEN_WCNF == MOST_FILE,
+               "the header's figures are not the second solver's");
+
 static const word as_found = 0x5a5a5a5a5a5a5a5a;
 
 /* Ends the run, with a line that no script has for an answer. */

@@ -47,13 +47,17 @@ static void no_rows(uint64_t of)
 
 static uint64_t all(void) { return ~(uint64_t)0 >> (64 - VARIABLES); }
 
-/* The longest text of an admissible table: every literal negative, as many weights of 8 figures as the sum allows, the rest of 7, the sum at
-   its limit, so that top has ten. */
+/* The longest text of an admissible table: every literal negative, the weights as many figures each as the sum allows to all of them, one
+   figure more to as many as it then allows, and the sum at its limit, so that top has ten. */
 static void longest_table(void)
 {
+    uint64_t weight = 1;
+    while (10 * weight * ROWS <= OLIKUMPASHO_MOST_WEIGHT) weight *= 10;
+    const uint64_t spare = OLIKUMPASHO_MOST_WEIGHT - weight * ROWS, longer = spare / (9 * weight);
     no_rows(VARIABLES);
     at->budget = OLIKUMPASHO_MOST_BUDGET;
-    for (int i = 0; i < ROWS; i++) row(0, all(), i < 54 ? 10000000 : i < ROWS - 1 ? 1000000 : 3000000);
+    for (uint64_t i = 0; i < ROWS; i++) row(0, all(), i < longer ? 10 * weight : weight);
+    at->table[at->words - 1] += spare % (9 * weight);
 }
 
 /* The walk goes down once, to the last variable, and cuts each second branch. */

@@ -8,9 +8,9 @@ use lib.ListN.{length}
 use Rattle.masks.proofs.Choice.{lt-or-le}
 use Rattle.rules.specs.declared.TextRead.{TextRead}
 use Rattle.rules.specs.declared.Judged.the-variants.{Fine}
-use Rattle.rules.specs.Table.{rowWords, mostRows}
+use Rattle.rules.specs.Table.{rowWords}
 use Rattle.rules.specs.Reader.{readWords, textRead}
-use Rattle.rules.specs.Program.{mostInput, outcomeOf, answer, answerWhy}
+use Rattle.rules.specs.Program.{mostInput, mostInputRows, outcomeOf, answer, answerWhy}
 use Rattle.text_laws.proofs.Found.{read-fine}
 use Rattle.text_laws.proofs.LentBytes.{text-fine}
 use Rattle.readings.specs.Line.{Counted}
@@ -24,14 +24,14 @@ pub outcome-counted : (input : List ℕ) → Counted (outcomeOf input)
 outcome-counted input =
     ⊎-elim
     (λ h. subst Counted (too-long input h) tt)
-    (λ short. by-text short (textRead input (rowWords * mostRows)) refl)
+    (λ short. by-text short (textRead mostInputRows input (rowWords * mostInputRows)) refl)
     (lt-or-le mostInput (length input))
   where
-    by-text : length input ≤ mostInput → (t : TextRead) → textRead input (rowWords * mostRows) ≡ t → Counted (outcomeOf input)
+    by-text : length input ≤ mostInput → (t : TextRead) → textRead mostInputRows input (rowWords * mostInputRows) ≡ t → Counted (outcomeOf input)
     by-text short (TextRead.Table n b m) e =
-        subst Counted (read input short (rowWords * mostRows) n b m (readWords input) refl e refl)
-        (table-counted n b m (readWords input) (read-fine input (rowWords * mostRows) n b m e .variables))
-    by-text short (TextRead.Refused r) e = subst Counted (not-read input short (rowWords * mostRows) r refl e) tt
+        subst Counted (read input short (rowWords * mostInputRows) n b m (readWords input) refl e refl)
+        (table-counted n b m (readWords input) (read-fine mostInputRows input (rowWords * mostInputRows) n b m e .variables))
+    by-text short (TextRead.Refused r) e = subst Counted (not-read input short (rowWords * mostInputRows) r refl e) tt
 
 pub answer-length : (input : List ℕ) → length (answer input) ≤ mostAnswer
 unfolding answer

@@ -4,6 +4,7 @@ ghost use mathlib.Core.Path.{_≡_};
 ghost use Rattle.rules.specs.Program.{outcomeOf};
 use outcomes::WORDS;
 use outcomes::inner::search_read;
+use reader::inner::read_up_to;
 use rules::Desk;
 use rules::Outcome;
 use rules::Refusal;
@@ -16,7 +17,7 @@ pub fn outcome_of(input: &[u8]) -> Outcome
         return Outcome::Refused(Refusal::InputTooLong);
     }
     let mut words = [0u64; WORDS];
-    match reader::read(input, &mut words[Desk::HEAD..]) {
+    match read_up_to(TextRead::MOST_INPUT_ROWS, input, &mut words[Desk::HEAD..]) {
         TextRead::Refused(why) => Outcome::Refused(why),
         TextRead::Table {
             variables,

@@ -1,6 +1,7 @@
 // For software in C: reader, writer and the program's answer, as `olikumpasho.h` has them.
 ghost use mathlib.Core.Path.{_≡_};
 ghost use lib.ListN.{length};
+ghost use Rattle.rules.specs.Table.{mostRows};
 ghost use Rattle.rules.specs.Text.{written, writeOut};
 ghost use Rattle.rules.specs.Reader.{textRead, readTable};
 ghost use Rattle.rules.specs.Program.{answered, answerOut};
@@ -12,9 +13,9 @@ use telling::inner::tell;
 
 #[no_mangle]
 pub extern "C" fn olikumpasho_read(text: &[u8], table: &mut [u64], head: &mut [u64; 3]) -> u64
-    ensures answer { λ r. ⌜ r ≡ told (byTextRead (textRead (now (text .entry)) (length (now (table .entry))))) ⌝ }
-    ensures words { λ _. ⌜ now (table .exit) ≡ readTable (now (text .entry)) (now (table .entry)) ⌝ }
-    ensures lent { λ _. ⌜ now (head .exit) ≡ headOut (textRead (now (text .entry)) (length (now (table .entry)))) (now (head .entry)) ⌝ }
+    ensures answer { λ r. ⌜ r ≡ told (byTextRead (textRead mostRows (now (text .entry)) (length (now (table .entry))))) ⌝ }
+    ensures words { λ _. ⌜ now (table .exit) ≡ readTable mostRows (now (text .entry)) (now (table .entry)) ⌝ }
+    ensures lent { λ _. ⌜ now (head .exit) ≡ headOut (textRead mostRows (now (text .entry)) (length (now (table .entry)))) (now (head .entry)) ⌝ }
 {
     match reader::read(text, table) {
         TextRead::Refused(r) => tell(Judged::Refused(r)),

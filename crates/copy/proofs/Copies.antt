@@ -16,11 +16,11 @@ use Rattle.text_laws.proofs.Converse.{converse}
 use Rattle.copy.specs.Copied.{lengthOf, lengthBy, outBy, copyLength, copyOut, Copied}
 
 module _ (input out : List ℕ) where
-  pub not-read : (r : Refusal) → textRead input (rowWords * mostRows) ≡ TextRead.Refused r → (0 ≡ copyLength input out) × (out ≡ copyOut input out)
+  pub not-read : (r : Refusal) → textRead mostRows input (rowWords * mostRows) ≡ TextRead.Refused r → (0 ≡ copyLength input out) × (out ≡ copyOut input out)
   unfolding copyLength copyOut
   not-read r h = (rw h, rw h)
 
-  pub read : (n b m : ℕ) (table : List ℕ) → textRead input (rowWords * mostRows) ≡ TextRead.Table n b m → table ≡ readWords input
+  pub read : (n b m : ℕ) (table : List ℕ) → textRead mostRows input (rowWords * mostRows) ≡ TextRead.Table n b m → table ≡ readWords input
       → (lengthOf (written n b table out) ≡ copyLength input out) × (writeOut n b table out ≡ copyOut input out)
   unfolding copyLength copyOut
   read n b m table h words = (rw (h, words), rw (h, words))
@@ -45,12 +45,12 @@ at-front n b table out = go (writeWhy n b table out) refl
 
 pub copies : (input out : List ℕ) → Copied input (copyLength input out) (copyOut input out)
 unfolding copyLength copyOut
-copies input out = go (textRead input (rowWords * mostRows)) refl
+copies input out = go (textRead mostRows input (rowWords * mostRows)) refl
   where
-    go : (x : TextRead) → textRead input (rowWords * mostRows) ≡ x → Copied input (lengthBy (readWords input) out x) (outBy (readWords input) out x)
+    go : (x : TextRead) → textRead mostRows input (rowWords * mostRows) ≡ x → Copied input (lengthBy (readWords input) out x) (outBy (readWords input) out x)
     go (TextRead.Table n b m) e =
         subst (λ s. Copied s (lengthOf (written n b (readWords input) out)) (writeOut n b (readWords input) out))
-        (sym (converse input (rowWords * mostRows) n b m e)) (at-front n b (readWords input) out)
+        (sym (converse mostRows input (rowWords * mostRows) n b m e)) (at-front n b (readWords input) out)
     go (TextRead.Refused r) e = nothing input out
 
 -- the same of what a call gives and leaves

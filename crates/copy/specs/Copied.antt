@@ -22,11 +22,11 @@ outBy table out (TextRead.Table variables budget m) = writeOut variables budget 
 outBy table out (TextRead.Refused r) = out
 
 unfoldable pub copyLength : List ℕ → List ℕ → ℕ
-copyLength input out = lengthBy (readWords input) out (textRead input (rowWords * mostRows))
+copyLength input out = lengthBy (readWords input) out (textRead mostRows input (rowWords * mostRows))
 
 -- the lent bytes afterwards
 unfoldable pub copyOut : List ℕ → List ℕ → List ℕ
-copyOut input out = outBy (readWords input) out (textRead input (rowWords * mostRows))
+copyOut input out = outBy (readWords input) out (textRead mostRows input (rowWords * mostRows))
 
 -- What a copy is, however it is made: the first bytes, and if there are any they are the text that was read.
 pub record Copied (input : List ℕ) (n : ℕ) (output : List ℕ) : Type 0 where

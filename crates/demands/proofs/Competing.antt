@@ -23,39 +23,39 @@ use Rattle.telling.specs.Told.{byWcnfRead}
 use Rattle.demands.specs.Competition.{readerWhy, Competition}
 
 -- the reader answers as it judges
-pub says-judged : (s : List ℕ) (room : ℕ) → readerWhy s room ≡ wcnfReadWhy s room
+pub says-judged : (most : ℕ) (s : List ℕ) (room : ℕ) → readerWhy most s room ≡ wcnfReadWhy most s room
 unfolding wcnfRead wcnfReadWhy
-says-judged s room = by-header (headerOf s)
+says-judged most s room = by-header (headerOf s)
   where
     accepted : (j : Judged) (v m t next line : ℕ) → byWcnfRead (wcnfReadAs j (WcnfHead.Figures v m t next line)) ≡ j
     accepted Fine v m t next line = refl
     accepted (Refused r) v m t next line = refl
 
-    by-header : (h : WcnfHead) → byWcnfRead (wcnfReadAs (headerWhy s room h) h) ≡ headerWhy s room h
-    by-header (WcnfHead.Figures v m t next line) = accepted (headerWhy s room (WcnfHead.Figures v m t next line)) v m t next line
+    by-header : (h : WcnfHead) → byWcnfRead (wcnfReadAs (headerWhy most s room h) h) ≡ headerWhy most s room h
+    by-header (WcnfHead.Figures v m t next line) = accepted (headerWhy most s room (WcnfHead.Figures v m t next line)) v m t next line
     by-header (WcnfHead.Broken line) = refl
 
-module _ (f : Form) (lent : List ℕ) (held : Held f) (fine : wcnfReadWhy (formText f) (length lent) ≡ Fine) where
-  file-answers : wcnfRead (formText f) (length lent) ≡ WcnfRead.Table (f .header .variables) (f .header .clauses)
+module _ (most : ℕ) (f : Form) (lent : List ℕ) (held : Held f) (fine : wcnfReadWhy most (formText f) (length lent) ≡ Fine) where
+  file-answers : wcnfRead most (formText f) (length lent) ≡ WcnfRead.Table (f .header .variables) (f .header .clauses)
   unfolding wcnfRead
   file-answers = rw (fine, figured (formText f) f held refl .header)
 
-  file-laid : Laid f lent (wcnfTable (formText f) lent)
+  file-laid : Laid f lent (wcnfTable most (formText f) lent)
   unfolding wcnfTable
   file-laid =
       let words = wcnfWords (formText f) in
       record {
         words = words;
         says = table-says f held;
-        laid = words-fine (wcnfReadWhy (formText f) (length lent)) (words ++ drop (length words) lent) lent fine;
+        laid = words-fine (wcnfReadWhy most (formText f) (length lent)) (words ++ drop (length words) lent) lent fine;
       }
 
 says-exactly : Exactly readerWhy
 says-exactly =
     record {
-      given = λ s room. subst (Given s room) (sym (says-judged s room)) (exactly .given s room);
-      nothingElse = λ s room j g. says-judged s room ∙ exactly .nothingElse s room j g;
-      firstLine = λ s room k e. exactly .firstLine s room k (sym (says-judged s room) ∙ e);
+      given = λ s most room. subst (Given s most room) (sym (says-judged most s room)) (exactly .given s most room);
+      nothingElse = λ s most room j g. says-judged most s room ∙ exactly .nothingElse s most room j g;
+      firstLine = λ s most room k e. exactly .firstLine s most room k (sym (says-judged most s room) ∙ e);
       endsEarly = exactly .endsEarly;
       nothingFollows = exactly .nothingFollows;
     }
@@ -70,9 +70,10 @@ competition =
           let back = read-back n table fine in
           (back .answer (length lent) room, back .lent lent room);
       exactly = says-exactly;
-      makes = λ f lent held fine.
-          let why = sym (says-judged (formText f) (length lent)) ∙ fine in
-          (file-answers f lent held why, file-laid f lent held why);
-      same = λ f g lent p q only here there.
-          same-read f g p q only .table lent (sym (says-judged (formText f) (length lent)) ∙ here) (sym (says-judged (formText g) (length lent)) ∙ there);
+      makes = λ most f lent held fine.
+          let why = sym (says-judged most (formText f) (length lent)) ∙ fine in
+          (file-answers most f lent held why, file-laid most f lent held why);
+      same = λ most f g lent p q only here there.
+          same-read f g p q only .table most lent (sym (says-judged most (formText f) (length lent)) ∙ here)
+          (sym (says-judged most (formText g) (length lent)) ∙ there);
     }

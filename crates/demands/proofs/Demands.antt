@@ -14,7 +14,7 @@ use Rattle.rules.specs.declared.Judged.the-variants.{Fine, Refused}
 use Rattle.rules.specs.declared.Searched.{Searched}
 use Rattle.rules.specs.Refusals.{unlessRefused}
 use Rattle.rules.proofs.Judging.{isFine}
-use Rattle.rules.specs.Table.{tableWhy}
+use Rattle.rules.specs.Table.{mostRows, tableWhy}
 use Rattle.rules.specs.Desk.{deskWords, wellFormed, loadWhy, loadStep, loadDesk}
 use Rattle.rules.specs.Decide.{decideWhy, decideStep, decideDesk}
 use Rattle.rules.specs.Rewrite.{rewriteWhy, rewriteStep, rewriteDesk}
@@ -68,19 +68,20 @@ take-back-left : (d : List ℕ) → Unchanged (takeBackWhy d) d (takeBackDesk d)
 unfolding takeBackDesk
 take-back-left d = left (takeBackWhy d) (takeBackStep d) d
 
-read-left : (text table : List ℕ) → Unchanged (byTextRead (textRead text (length table))) table (readTable text table)
+read-left : (text table : List ℕ) → Unchanged (byTextRead (textRead mostRows text (length table))) table (readTable mostRows text table)
 unfolding readTable readWhy
-read-left text table r e = left (headWhy text (length table) (headAt text)) (readStep text table) table r (sym (says-judged text (length table)) ∙ e)
+read-left text table r e =
+    left (headWhy mostRows text (length table) (headAt text)) (readStep text table) table r (sym (says-judged text mostRows (length table)) ∙ e)
 
 text-left : (before : Judged) (text out : List ℕ) → Unchanged (textWhy before text out) out (textOut before text out)
 unfolding textOut
 text-left before text out = left (textWhy before text out) (text ++ drop (length text) out) out
 
-read-file-left : (text table : List ℕ) → Unchanged (readerWhy text (length table)) table (wcnfTable text table)
+read-file-left : (text table : List ℕ) → Unchanged (readerWhy mostRows text (length table)) table (wcnfTable mostRows text table)
 unfolding wcnfTable
 read-file-left text table r e =
     let words = wcnfWords text in
-    left (wcnfReadWhy text (length table)) (words ++ drop (length words) table) table r (sym (file-judged text (length table)) ∙ e)
+    left (wcnfReadWhy mostRows text (length table)) (words ++ drop (length words) table) table r (sym (file-judged mostRows text (length table)) ∙ e)
 
 near-fine : (j : Judged) → toldNear j ≡ 0 → j ≡ Fine
 near-fine Fine e = refl
@@ -127,8 +128,8 @@ demand-2 =
           text-written (tableWhy n table) text out (text-fine (tableWhy n table) text out fine room);
       readsBack = λ n budget table lent fine b room.
           let r = round-trip n budget table (length lent) (ap isFine fine) b room in
-          (r .answer, read-back n budget table lent r);
-      noOther = λ text lent n budget m table answer words. converse text (length lent) n budget m answer ∙ ap (tableText n budget) words;
+          (r .answer, read-back mostRows n budget table lent r);
+      noOther = λ text lent n budget m table answer words. converse mostRows text (length lent) n budget m answer ∙ ap (tableText n budget) words;
       byLines = by-lines;
       competition = competition;
     }

@@ -17,7 +17,7 @@ use Rattle.rules.specs.declared.Judged.{Judged}
 use Rattle.rules.specs.declared.Judged.the-variants.{Fine, Refused}
 use Rattle.rules.proofs.Judging.{refuse-fine}
 use Rattle.rules.specs.Refusals.{refuse, inOrder, firstDue}
-use Rattle.rules.specs.Table.{rowWords, mostRows, rowCount}
+use Rattle.rules.specs.Table.{rowWords, rowCount}
 use Rattle.rules.specs.Walk.{mostBudget}
 use Rattle.rules.specs.Text.{tableText}
 use Rattle.rules.specs.Reader.{firstRowLine, rowLines}
@@ -33,28 +33,28 @@ use Rattle.demands.specs.Lines.{figuresWhy, Reads, head, figures, rest, 
 
 -- ---- figures
 
-record Limits (room n b m : ℕ) : Type 0 where
+record Limits (most room n b m : ℕ) : Type 0 where
   variables : n ≤ mostVariables
   budget : b ≤ mostBudget
-  few : m ≤ mostRows
+  few : m ≤ most
   fits : rowWords * m ≤ room
 
-limits : (room n b m : ℕ) → firstDue (figuresOrder room n b m) ≡ Fine → Limits room n b m
-limits room n b m fine =
+limits : (most room n b m : ℕ) → firstDue (figuresOrder most room n b m) ≡ Fine → Limits most room n b m
+limits most room n b m fine =
     let e1 = refuse-fine (ltb mostVariables n) TooManyVariables _ fine in
     let e2 = refuse-fine (ltb mostBudget b) BadBudget _ (e1 .1) in
-    let e3 = refuse-fine (ltb mostRows m) BadTable _ (e2 .1) in
+    let e3 = refuse-fine (ltb most m) BadTable _ (e2 .1) in
     let e4 = refuse-fine (ltb room (rowWords * m)) NoRoom Fine (e3 .1) in
     record {
       variables = ltb-false mostVariables n (e1 .0);
       budget = ltb-false mostBudget b (e2 .0);
-      few = ltb-false mostRows m (e3 .0);
+      few = ltb-false most m (e3 .0);
       fits = ltb-false room (rowWords * m) (e4 .0);
     }
 
 -- the same judgement, of equal figures
-order-same : (room n b m x y z : ℕ) → (x ≡ n) × (y ≡ b) × (z ≡ m) → firstDue (figuresOrder room x y z) ≡ firstDue (figuresOrder room n b m)
-order-same room n b m x y z e = rw (e .0, e .1, e .2)
+order-same : (most room n b m x y z : ℕ) → (x ≡ n) × (y ≡ b) × (z ≡ m) → firstDue (figuresOrder most room x y z) ≡ firstDue (figuresOrder most room n b m)
+order-same most room n b m x y z e = rw (e .0, e .1, e .2)
 
 -- ---- what is said of a head and of the rest
 
@@ -62,13 +62,13 @@ refuse-then : (t : Bool) (r : Refusal) (j after last : Judged) → after ≡ inO
 refuse-then true r j after last e = refl
 refuse-then false r j after last e = e
 
-lines-said : (s : List ℕ) (room n b m from : ℕ)
-    → headWhy s room (HeadRead.Lines n b m from) ≡ inOrder (firstDue (figuresOrder room n b m)) (restWhy s m (rowsAt m s from firstRowLine))
-lines-said s room n b m from =
+lines-said : (s : List ℕ) (most room n b m from : ℕ)
+    → headWhy most s room (HeadRead.Lines n b m from) ≡ inOrder (firstDue (figuresOrder most room n b m)) (restWhy s m (rowsAt m s from firstRowLine))
+lines-said s most room n b m from =
     let last = restWhy s m (rowsAt m s from firstRowLine) in
     refuse-then (ltb mostVariables n) TooManyVariables _ _ last
     (refuse-then (ltb mostBudget b) BadBudget _ _ last
-    (refuse-then (ltb mostRows m) BadTable _ _ last (refuse-then (ltb room (rowWords * m)) NoRoom Fine last last refl)))
+    (refuse-then (ltb most m) BadTable _ _ last (refuse-then (ltb room (rowWords * m)) NoRoom Fine last last refl)))
 
 record Faulted (j : Judged) : Type 0 where
   line : ℕ
@@ -82,12 +82,12 @@ rest-either s m (rows words end) = go (not (eqb end (length s)))
     go false = inl refl
 rest-either s m (brokenAt line) = inr (record { line = line; said = refl })
 
-module _ (s : List ℕ) (room n b m from : ℕ) (e : headAt s ≡ HeadRead.Lines n b m from) (lines : HeadLines s n b m from) where
+module _ (s : List ℕ) (most room n b m from : ℕ) (e : headAt s ≡ HeadRead.Lines n b m from) (lines : HeadLines s n b m from) where
   abbrev rest-judged : Judged
   rest-judged = restWhy s m (rowsAt m s from firstRowLine)
 
   abbrev mine : Judged
-  mine = firstDue (figuresOrder room n b m)
+  mine = firstDue (figuresOrder most room n b m)
 
   abbrev words : List ℕ
   words = wordsOf (rowsAt m s from firstRowLine)
@@ -95,36 +95,36 @@ module _ (s : List ℕ) (room n b m from : ℕ) (e : headAt s ≡ HeadRead.Lines
   text-whole : rest-judged ≡ Fine → s ≡ tableText n b words
   text-whole fine = head-and-rows s n b m from words e (rest-words s m (rowsAt m s from firstRowLine) fine)
 
-  figures-mine : (f : InForm s 3) → figuresWhy room f ≡ mine
-  figures-mine f = order-same room n b m (f .variables) (f .budget) (rowCount (f .table)) (lines .same f)
+  figures-mine : (f : InForm s 3) → figuresWhy most room f ≡ mine
+  figures-mine f = order-same most room n b m (f .variables) (f .budget) (rowCount (f .table)) (lines .same f)
 
   -- the first direction
-  rest-reads : mine ≡ Fine → Reads s room rest-judged
+  rest-reads : mine ≡ Fine → Reads s most room rest-judged
   rest-reads due =
       ⊎-elim
       (λ (fine : rest-judged ≡ Fine).
-      let same = subst (λ (k : ℕ). firstDue (figuresOrder room n b k) ≡ Fine) (sym (lines .count fine)) due in
-      subst (Reads s room) (sym fine) (whole n b words (lines .held fine) (text-whole fine) same))
+      let same = subst (λ (k : ℕ). firstDue (figuresOrder most room n b k) ≡ Fine) (sym (lines .count fine)) due in
+      subst (Reads s most room) (sym fine) (whole n b words (lines .held fine) (text-whole fine) same))
       (λ (f : Faulted rest-judged).
       let place = lines .faulted (f .line) (f .said) in
-      subst (Reads s room) (sym (f .said)) (rest (lines .form) (figures-mine (lines .form) ∙ due) (f .line) (place .1) (place .0)))
+      subst (Reads s most room) (sym (f .said)) (rest (lines .form) (figures-mine (lines .form) ∙ due) (f .line) (place .1) (place .0)))
       (rest-either s m (rowsAt m s from firstRowLine))
 
-  lines-read : Reads s room (headWhy s room (HeadRead.Lines n b m from))
-  lines-read = subst (Reads s room) (sym (lines-said s room n b m from)) (go mine refl)
+  lines-read : Reads s most room (headWhy most s room (HeadRead.Lines n b m from))
+  lines-read = subst (Reads s most room) (sym (lines-said s most room n b m from)) (go mine refl)
     where
-      go : (j : Judged) → mine ≡ j → Reads s room (inOrder j rest-judged)
+      go : (j : Judged) → mine ≡ j → Reads s most room (inOrder j rest-judged)
       go Fine h = rest-reads h
       go (Refused r) h = figures (lines .form) r (figures-mine (lines .form) ∙ h)
 
   -- the other direction
-  figures-only : (f : InForm s 3) (r : Refusal) → figuresWhy room f ≡ Refused r → headWhy s room (HeadRead.Lines n b m from) ≡ Refused r
-  figures-only f r due = lines-said s room n b m from ∙ ap (λ (j : Judged). inOrder j rest-judged) (sym (figures-mine f) ∙ due)
+  figures-only : (f : InForm s 3) (r : Refusal) → figuresWhy most room f ≡ Refused r → headWhy most s room (HeadRead.Lines n b m from) ≡ Refused r
+  figures-only f r due = lines-said s most room n b m from ∙ ap (λ (j : Judged). inOrder j rest-judged) (sym (figures-mine f) ∙ due)
 
-  rest-only : (f : InForm s 3) → figuresWhy room f ≡ Fine → (k : ℕ) → FirstBroken s k
-      → headWhy s room (HeadRead.Lines n b m from) ≡ Refused (BadText k)
+  rest-only : (f : InForm s 3) → figuresWhy most room f ≡ Fine → (k : ℕ) → FirstBroken s k
+      → headWhy most s room (HeadRead.Lines n b m from) ≡ Refused (BadText k)
   rest-only f due k broken =
-      lines-said s room n b m from
+      lines-said s most room n b m from
       ∙ ap (λ (j : Judged). inOrder j rest-judged) (sym (figures-mine f) ∙ due)
       ∙ ⊎-elim
       (λ (fine : rest-judged ≡ Fine). absurd (broken .breaks (written-in-form s n b words k (lines .held fine) (text-whole fine))))
@@ -134,60 +134,60 @@ module _ (s : List ℕ) (room n b m from : ℕ) (e : headAt s ≡ HeadRead.Lines
 
 -- ---- both directions
 
-read-judged : (s : List ℕ) (room : ℕ) (h : HeadRead) → byTextRead (textReadAs (headWhy s room h) h) ≡ headWhy s room h
-read-judged s room (HeadRead.Broken line) = refl
-read-judged s room (HeadRead.Lines n b m from) = go (headWhy s room (HeadRead.Lines n b m from))
+read-judged : (s : List ℕ) (most room : ℕ) (h : HeadRead) → byTextRead (textReadAs (headWhy most s room h) h) ≡ headWhy most s room h
+read-judged s most room (HeadRead.Broken line) = refl
+read-judged s most room (HeadRead.Lines n b m from) = go (headWhy most s room (HeadRead.Lines n b m from))
   where
     go : (j : Judged) → byTextRead (textReadAs j (HeadRead.Lines n b m from)) ≡ j
     go Fine = refl
     go (Refused r) = refl
 
-pub says-judged : (s : List ℕ) (room : ℕ) → byTextRead (textRead s room) ≡ headWhy s room (headAt s)
+pub says-judged : (s : List ℕ) (most room : ℕ) → byTextRead (textRead most s room) ≡ headWhy most s room (headAt s)
 unfolding textRead readWhy
-says-judged s room = read-judged s room (headAt s)
+says-judged s most room = read-judged s most room (headAt s)
 
-head-reads : (s : List ℕ) (room : ℕ) (h : HeadRead) → headAt s ≡ h → HeadSays s h → Reads s room (headWhy s room h)
-head-reads s room (HeadRead.Broken k) e says = head k (says .1) (says .0)
-head-reads s room (HeadRead.Lines n b m from) e says = lines-read s room n b m from e says
+head-reads : (s : List ℕ) (most room : ℕ) (h : HeadRead) → headAt s ≡ h → HeadSays s h → Reads s most room (headWhy most s room h)
+head-reads s most room (HeadRead.Broken k) e says = head k (says .1) (says .0)
+head-reads s most room (HeadRead.Lines n b m from) e says = lines-read s most room n b m from e says
 
-text-reads : (s : List ℕ) (room : ℕ) → Reads s room (byTextRead (textRead s room))
-text-reads s room = subst (Reads s room) (sym (says-judged s room)) (head-reads s room (headAt s) refl (head-says s))
+text-reads : (s : List ℕ) (most room : ℕ) → Reads s most room (byTextRead (textRead most s room))
+text-reads s most room = subst (Reads s most room) (sym (says-judged s most room)) (head-reads s most room (headAt s) refl (head-says s))
 
 -- whatever is held is read back, and its words come to stand at the front of those lent
-pub read-back : (n budget : ℕ) (table lent : List ℕ) → ReadBack (tableText n budget table) (length lent) n budget table
-    → readTable (tableText n budget table) lent ≡ table ++ drop (length table) lent
+pub read-back : (most n budget : ℕ) (table lent : List ℕ) → ReadBack most (tableText n budget table) (length lent) n budget table
+    → readTable most (tableText n budget table) lent ≡ table ++ drop (length table) lent
 unfolding readTable readStep
-read-back n budget table lent r = rw (r .fine, r .words)
+read-back most n budget table lent r = rw (r .fine, r .words)
 
-held-back : (n b : ℕ) (table : List ℕ) (room : ℕ) → Held n b table → firstDue (figuresOrder room n b (rowCount table)) ≡ Fine
-    → ReadBack (tableText n b table) room n b table
-held-back n b table room held due =
-    let l = limits room n b (rowCount table) due in
-    held-trip n b table room held (l .variables) (l .budget) (l .few) (omega (arith, held .whole, l .fits))
+held-back : (n b : ℕ) (table : List ℕ) (most room : ℕ) → Held n b table → firstDue (figuresOrder most room n b (rowCount table)) ≡ Fine
+    → ReadBack most (tableText n b table) room n b table
+held-back n b table most room held due =
+    let l = limits most room n b (rowCount table) due in
+    held-trip most n b table room held (l .variables) (l .budget) (l .few) (omega (arith, held .whole, l .fits))
 
-head-only : (s : List ℕ) (room k : ℕ) → k ≤ 3 → FirstBroken s k → (h : HeadRead) → HeadSays s h → headWhy s room h ≡ Refused (BadText k)
-head-only s room k l broken (HeadRead.Broken j) says = ap (λ (line : ℕ). Refused (BadText line)) (one-place s j k (says .0) broken)
-head-only s room k l broken (HeadRead.Lines n b m from) says = absurd (broken .breaks (fewer-in-form s k 3 l (says .form)))
+head-only : (s : List ℕ) (most room k : ℕ) → k ≤ 3 → FirstBroken s k → (h : HeadRead) → HeadSays s h → headWhy most s room h ≡ Refused (BadText k)
+head-only s most room k l broken (HeadRead.Broken j) says = ap (λ (line : ℕ). Refused (BadText line)) (one-place s j k (says .0) broken)
+head-only s most room k l broken (HeadRead.Lines n b m from) says = absurd (broken .breaks (fewer-in-form s k 3 l (says .form)))
 
-said-only : (s : List ℕ) (room : ℕ) (h : HeadRead) → headAt s ≡ h → HeadSays s h → (why : Judged) → Reads s room why
-    → byTextRead (textRead s room) ≡ headWhy s room h → byTextRead (textRead s room) ≡ why
-said-only s room h e says why (head k l broken) q = q ∙ head-only s room k l broken h says
-said-only s room (HeadRead.Broken j) e says why (figures f r due) q = absurd (says .0 .breaks (fewer-in-form s j 3 (says .1) f))
-said-only s room (HeadRead.Lines n b m from) e says why (figures f r due) q = q ∙ figures-only s room n b m from e says f r due
-said-only s room (HeadRead.Broken j) e says why (rest f due k l broken) q = absurd (says .0 .breaks (fewer-in-form s j 3 (says .1) f))
-said-only s room (HeadRead.Lines n b m from) e says why (rest f due k l broken) q = q ∙ rest-only s room n b m from e says f due k broken
-said-only s room h e says why (whole n b table held text due) q =
-    ap (λ (t : List ℕ). byTextRead (textRead t room)) text ∙ ap byTextRead (held-back n b table room held due .answer)
+said-only : (s : List ℕ) (most room : ℕ) (h : HeadRead) → headAt s ≡ h → HeadSays s h → (why : Judged) → Reads s most room why
+    → byTextRead (textRead most s room) ≡ headWhy most s room h → byTextRead (textRead most s room) ≡ why
+said-only s most room h e says why (head k l broken) q = q ∙ head-only s most room k l broken h says
+said-only s most room (HeadRead.Broken j) e says why (figures f r due) q = absurd (says .0 .breaks (fewer-in-form s j 3 (says .1) f))
+said-only s most room (HeadRead.Lines n b m from) e says why (figures f r due) q = q ∙ figures-only s most room n b m from e says f r due
+said-only s most room (HeadRead.Broken j) e says why (rest f due k l broken) q = absurd (says .0 .breaks (fewer-in-form s j 3 (says .1) f))
+said-only s most room (HeadRead.Lines n b m from) e says why (rest f due k l broken) q = q ∙ rest-only s most room n b m from e says f due k broken
+said-only s most room h e says why (whole n b table held text due) q =
+    ap (λ (t : List ℕ). byTextRead (textRead most t room)) text ∙ ap byTextRead (held-back n b table most room held due .answer)
 
 pub by-lines : ByLines
 by-lines =
     record {
       reads = text-reads;
-      nothingElse = λ s room why r.
-          said-only s room (headAt s) refl (head-says s) why r (says-judged s room);
+      nothingElse = λ s most room why r.
+          said-only s most room (headAt s) refl (head-says s) why r (says-judged s most room);
       endsEarly = ends-early;
       nothingFollows = goes-on;
-      readsHeld = λ n b table lent held due.
-          let back = held-back n b table (length lent) held due in
-          (back .answer, read-back n b table lent back);
+      readsHeld = λ most n b table lent held due.
+          let back = held-back n b table most (length lent) held due in
+          (back .answer, read-back most n b table lent back);
     }

@@ -8,7 +8,7 @@ use Rattle.rules.specs.declared.Judged.{Judged}
 use Rattle.rules.specs.declared.Judged.the-variants.{Fine}
 use Rattle.rules.specs.declared.WcnfRead.{WcnfRead}
 use Rattle.rules.specs.declared.Written.{Written}
-use Rattle.rules.specs.Table.{rowCount, tableWhy}
+use Rattle.rules.specs.Table.{mostRows, rowCount, tableWhy}
 use Rattle.rules.specs.Wcnf.{wcnfText, wcnfWritten, wcnfOut}
 use Rattle.rules.specs.WcnfReader.{wcnfRead, wcnfTable}
 use Rattle.wcnf_laws.specs.Form.{Form, Held, formText}
@@ -17,9 +17,9 @@ use Rattle.wcnf_laws.specs.Rows.{Laid}
 use Rattle.wcnf_laws.specs.Same.{DifferOnly}
 use Rattle.telling.specs.Told.{byWcnfRead}
 
--- what the reader judges of a text, given room for so many words
-abbrev pub readerWhy : List ℕ → ℕ → Judged
-readerWhy s room = byWcnfRead (wcnfRead s room)
+-- what a reader of so many rows at most judges of a text, given room for so many words
+abbrev pub readerWhy : ℕ → List ℕ → ℕ → Judged
+readerWhy most s room = byWcnfRead (wcnfRead most s room)
 
 pub record Competition : Type 0 where
   -- "our writer's output reads back to the same admissible table"
@@ -27,13 +27,13 @@ pub record Competition : Type 0 where
       → (wcnfWritten n table out ≡ Written.Bytes (length (wcnfText n table)))
       × (wcnfOut n table out ≡ wcnfText n table ++ drop (length (wcnfText n table)) out)
   pub readsBack : (n : ℕ) (table lent : List ℕ) → tableWhy n table ≡ Fine → length table ≤ length lent
-      → (wcnfRead (wcnfText n table) (length lent) ≡ WcnfRead.Table n (rowCount table))
-      × (wcnfTable (wcnfText n table) lent ≡ table ++ drop (length table) lent)
+      → (wcnfRead mostRows (wcnfText n table) (length lent) ≡ WcnfRead.Table n (rowCount table))
+      × (wcnfTable mostRows (wcnfText n table) lent ≡ table ++ drop (length table) lent)
   -- "A broken, missing or surplus line is 20 with its line. After the header come 1, 2 and 4 by its figures; then line by line 20, 5, 21"
   pub exactly : Exactly readerWhy
   -- "Literals come in any order; one given twice counts once."
-  pub makes : (f : Form) (lent : List ℕ) → Held f → readerWhy (formText f) (length lent) ≡ Fine
-      → (wcnfRead (formText f) (length lent) ≡ WcnfRead.Table (f .header .variables) (f .header .clauses)) × Laid f lent (wcnfTable (formText f) lent)
+  pub makes : (most : ℕ) (f : Form) (lent : List ℕ) → Held f → readerWhy most (formText f) (length lent) ≡ Fine
+      → (wcnfRead most (formText f) (length lent) ≡ WcnfRead.Table (f .header .variables) (f .header .clauses)) × Laid f lent (wcnfTable most (formText f) lent)
   -- "two accepted texts which differ only in comments, literal order or repeats give the same table"
-  pub same : (f g : Form) (lent : List ℕ) → Held f → Held g → DifferOnly f g → readerWhy (formText f) (length lent) ≡ Fine
-      → readerWhy (formText g) (length lent) ≡ Fine → wcnfTable (formText f) lent ≡ wcnfTable (formText g) lent
+  pub same : (most : ℕ) (f g : Form) (lent : List ℕ) → Held f → Held g → DifferOnly f g → readerWhy most (formText f) (length lent) ≡ Fine
+      → readerWhy most (formText g) (length lent) ≡ Fine → wcnfTable most (formText f) lent ≡ wcnfTable most (formText g) lent

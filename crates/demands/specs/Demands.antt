@@ -19,7 +19,7 @@ use Rattle.rules.specs.declared.Searched.{Searched}
 use Rattle.rules.specs.declared.TextRead.{TextRead}
 use Rattle.rules.specs.declared.Written.{Written}
 use Rattle.rules.specs.Refusals.{numberOf, placeOf, Rule}
-use Rattle.rules.specs.Table.{rowCount, weighs, tableWhy}
+use Rattle.rules.specs.Table.{mostRows, rowCount, weighs, tableWhy}
 use Rattle.rules.specs.Desk.{standing, decided, truths, deskWords, wellFormed, loadWhy, loadDesk, decisions, deskWeighs, keeps}
 use Rattle.rules.specs.Decide.{decideWhy, decideDesk}
 use Rattle.rules.specs.Rewrite.{rewriteWhy, rewriteDesk}
@@ -63,10 +63,10 @@ pub record Demand1 : Type 0 where
   pub decide : (d : List ℕ) (literal : ℤ) → Unchanged (decideWhy d literal) d (decideDesk d literal)
   pub rewrite : (d : List ℕ) (kind : ℕ) (named : List ℕ) → Unchanged (rewriteWhy d kind named) d (rewriteDesk d kind named)
   pub takeBack : (d : List ℕ) → Unchanged (takeBackWhy d) d (takeBackDesk d)
-  pub read : (text table : List ℕ) → Unchanged (byTextRead (textRead text (length table))) table (readTable text table)
+  pub read : (text table : List ℕ) → Unchanged (byTextRead (textRead mostRows text (length table))) table (readTable mostRows text table)
   pub write : (n budget : ℕ) (table out : List ℕ) → Unchanged (writeWhy n budget table out) out (writeOut n budget table out)
   pub answer : (input output : List ℕ) → Unchanged (answerWhy input output) output (answerOut input output)
-  pub readWcnf : (text table : List ℕ) → Unchanged (readerWhy text (length table)) table (wcnfTable text table)
+  pub readWcnf : (text table : List ℕ) → Unchanged (readerWhy mostRows text (length table)) table (wcnfTable mostRows text table)
   pub writeWcnf : (n : ℕ) (table out : List ℕ) → Unchanged (wcnfWriteWhy n table out) out (wcnfOut n table out)
   pub answerWcnf : (input output : List ℕ) → Unchanged (wcnfAnswerWhy input output) output (wcnfAnswerOut input output)
 
@@ -92,11 +92,11 @@ pub record Demand2 : Type 0 where
       × (writeOut n budget table out ≡ tableText n budget table ++ drop (length (tableText n budget table)) out)
   -- "reads back as the same three"
   pub readsBack : (n budget : ℕ) (table lent : List ℕ) → tableWhy n table ≡ Fine → budget ≤ mostBudget → length table ≤ length lent
-      → (textRead (tableText n budget table) (length lent) ≡ TextRead.Table n budget (rowCount table))
-      × (readTable (tableText n budget table) lent ≡ table ++ drop (length table) lent)
+      → (textRead mostRows (tableText n budget table) (length lent) ≡ TextRead.Table n budget (rowCount table))
+      × (readTable mostRows (tableText n budget table) lent ≡ table ++ drop (length table) lent)
   -- "and no other text does."
-  pub noOther : (text lent : List ℕ) (n budget m : ℕ) (table : List ℕ) → textRead text (length lent) ≡ TextRead.Table n budget m → readWords text ≡ table
-      → text ≡ tableText n budget table
+  pub noOther : (text lent : List ℕ) (n budget m : ℕ) (table : List ℕ) → textRead mostRows text (length lent) ≡ TextRead.Table n budget m
+      → readWords text ≡ table → text ≡ tableText n budget table
   -- "The first line that breaks the form is the place": what the reader says of any text, by its lines
   pub byLines : ByLines
   -- document 02, C-11

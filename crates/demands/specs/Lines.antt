@@ -17,22 +17,22 @@ use Rattle.rules.specs.Text.{figuresOrder}
 use Rattle.text_laws.specs.Lines.{ended, lineAt, Held, InForm, FirstBroken}
 use Rattle.telling.specs.Told.{byTextRead}
 
--- what the figures that the first three lines say are judged: 1, 9, 2, 4
-abbrev pub figuresWhy : ℕ → {text : List ℕ} → InForm text 3 → Judged
-figuresWhy room f = firstDue (figuresOrder room (f .variables) (f .budget) (rowCount (f .table)))
+-- what the figures that the first three lines say are judged by a reader of so many rows at most: 1, 9, 2, 4
+abbrev pub figuresWhy : ℕ → ℕ → {text : List ℕ} → InForm text 3 → Judged
+figuresWhy most room f = firstDue (figuresOrder most room (f .variables) (f .budget) (rowCount (f .table)))
 
 -- "Reader: first three lines (20), 1, 9, 2, 4, the rest (20)"; "20: text breaks its form; place = line"
-pub data Reads (text : List ℕ) (room : ℕ) : Judged → Type 0 where
-  head : (k : ℕ) → k ≤ 3 → FirstBroken text k → Reads text room (Refused (BadText k))
-  figures : (f : InForm text 3) (r : Refusal) → figuresWhy room f ≡ Refused r → Reads text room (Refused r)
-  rest : (f : InForm text 3) → figuresWhy room f ≡ Fine → (k : ℕ) → 3 < k → FirstBroken text k → Reads text room (Refused (BadText k))
+pub data Reads (text : List ℕ) (most room : ℕ) : Judged → Type 0 where
+  head : (k : ℕ) → k ≤ 3 → FirstBroken text k → Reads text most room (Refused (BadText k))
+  figures : (f : InForm text 3) (r : Refusal) → figuresWhy most room f ≡ Refused r → Reads text most room (Refused r)
+  rest : (f : InForm text 3) → figuresWhy most room f ≡ Fine → (k : ℕ) → 3 < k → FirstBroken text k → Reads text most room (Refused (BadText k))
   whole : (variables budget : ℕ) (table : List ℕ) → Held variables budget table → text ≡ tableText variables budget table
-      → firstDue (figuresOrder room variables budget (rowCount table)) ≡ Fine → Reads text room Fine
+      → firstDue (figuresOrder most room variables budget (rowCount table)) ≡ Fine → Reads text most room Fine
 
 pub record ByLines : Type 0 where
   -- "The first line that breaks the form is the place, counted from 1"
-  pub reads : (text : List ℕ) (room : ℕ) → Reads text room (byTextRead (textRead text room))
-  pub nothingElse : (text : List ℕ) (room : ℕ) (why : Judged) → Reads text room why → byTextRead (textRead text room) ≡ why
+  pub reads : (text : List ℕ) (most room : ℕ) → Reads text most room (byTextRead (textRead most text room))
+  pub nothingElse : (text : List ℕ) (most room : ℕ) (why : Judged) → Reads text most room why → byTextRead (textRead most text room) ≡ why
   -- "text that ends early is faulted at the line that is missing or unended"
   pub endsEarly : (text more : List ℕ) (variables budget : ℕ) (table : List ℕ) → Held variables budget table
       → text ++ more ≡ tableText variables budget table → (k : ℕ) → FirstBroken text k → (bytes : List ℕ) → lineAt k text ≡ ended bytes → ⊥
@@ -40,7 +40,7 @@ pub record ByLines : Type 0 where
   pub nothingFollows : (variables budget : ℕ) (table more : List ℕ) → Held variables budget table → 0 < length more
       → FirstBroken (tableText variables budget table ++ more) (4 + 2 * rowCount table)
   -- "it judges neither weights nor literals against the count": whatever the form holds is read, within the limits of its figures
-  pub readsHeld : (variables budget : ℕ) (table lent : List ℕ) → Held variables budget table
-      → firstDue (figuresOrder (length lent) variables budget (rowCount table)) ≡ Fine
-      → (textRead (tableText variables budget table) (length lent) ≡ TextRead.Table variables budget (rowCount table))
-      × (readTable (tableText variables budget table) lent ≡ table ++ drop (length table) lent)
+  pub readsHeld : (most variables budget : ℕ) (table lent : List ℕ) → Held variables budget table
+      → firstDue (figuresOrder most (length lent) variables budget (rowCount table)) ≡ Fine
+      → (textRead most (tableText variables budget table) (length lent) ≡ TextRead.Table variables budget (rowCount table))
+      × (readTable most (tableText variables budget table) lent ≡ table ++ drop (length table) lent)

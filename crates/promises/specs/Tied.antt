@@ -22,7 +22,7 @@ use Rattle.answer.proofs.answer as answer
 use Rattle.wcnf_reader.proofs.read_wcnf as readWcnf
 use Rattle.wcnf_writer.proofs.write_wcnf as writeWcnf
 use Rattle.wcnf_answer.proofs.answer_wcnf as answerWcnf
-use Rattle.rules.specs.Table.{weighed}
+use Rattle.rules.specs.Table.{mostRows, weighed}
 use Rattle.rules.specs.Desk.{loadWhy, loadDesk, wellFormed as isWellFormed}
 use Rattle.rules.specs.Decide.{decideWhy, decideDesk}
 use Rattle.rules.specs.Rewrite.{rewriteWhy, rewriteDesk}
@@ -56,14 +56,14 @@ pub record TiedInCode {M : Type 1} (𝓤 : URA M) (H : Heap 𝓤) (A : Atoms �
   pub search : Tied 𝓤 H A search.ended (search.Statement.statement M) (search.spec 𝓤 H A memory run) (search.clauses 𝓤 H A memory run)
       (λ κs a. searched (now (a .0)) (a .1 .0) (a .1 .1 .0)) (λ κs a. (tt, (tt, (tt, tt))))
   pub read : Tied 𝓤 H A read.ended (read.Statement.statement M) (read.spec 𝓤 H A memory run) (read.clauses 𝓤 H A memory run)
-      (λ κs a. textRead (now (a .0)) (length (now (a .1 .0)))) (λ κs a. (tt, (readTable (now (a .0)) (now (a .1 .0)), tt)))
+      (λ κs a. textRead mostRows (now (a .0)) (length (now (a .1 .0)))) (λ κs a. (tt, (readTable mostRows (now (a .0)) (now (a .1 .0)), tt)))
   pub write : Tied 𝓤 H A write.ended (write.Statement.statement M) (write.spec 𝓤 H A memory run) (write.clauses 𝓤 H A memory run)
       (λ κs a. written (a .0) (a .1 .0) (now (a .1 .1 .0)) (now (a .1 .1 .1 .0)))
       (λ κs a. (tt, (tt, (tt, (writeOut (a .0) (a .1 .0) (now (a .1 .1 .0)) (now (a .1 .1 .1 .0)), tt)))))
   pub answer : Tied 𝓤 H A answer.ended (answer.Statement.statement M) (answer.spec 𝓤 H A memory run) (answer.clauses 𝓤 H A memory run)
       (λ κs a. answered (now (a .0)) (now (a .1 .0))) (λ κs a. (tt, (answerOut (now (a .0)) (now (a .1 .0)), tt)))
   pub readWcnf : Tied 𝓤 H A readWcnf.ended (readWcnf.Statement.statement M) (readWcnf.spec 𝓤 H A memory run) (readWcnf.clauses 𝓤 H A memory run)
-      (λ κs a. wcnfRead (now (a .0)) (length (now (a .1 .0)))) (λ κs a. (tt, (wcnfTable (now (a .0)) (now (a .1 .0)), tt)))
+      (λ κs a. wcnfRead mostRows (now (a .0)) (length (now (a .1 .0)))) (λ κs a. (tt, (wcnfTable mostRows (now (a .0)) (now (a .1 .0)), tt)))
   pub writeWcnf : Tied 𝓤 H A writeWcnf.ended (writeWcnf.Statement.statement M) (writeWcnf.spec 𝓤 H A memory run) (writeWcnf.clauses 𝓤 H A memory run)
       (λ κs a. wcnfWritten (a .0) (now (a .1 .0)) (now (a .1 .1 .0))) (λ κs a. (tt, (tt, (wcnfOut (a .0) (now (a .1 .0)) (now (a .1 .1 .0)), tt))))
   pub answerWcnf : Tied 𝓤 H A answerWcnf.ended (answerWcnf.Statement.statement M) (answerWcnf.spec 𝓤 H A memory run) (answerWcnf.clauses 𝓤 H A memory run)

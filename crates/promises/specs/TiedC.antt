@@ -23,7 +23,7 @@ use Rattle.c_wcnf.proofs.olikumpasho_read_wcnf as readWcnf
 use Rattle.c_wcnf.proofs.olikumpasho_write_wcnf as writeWcnf
 use Rattle.telling.specs.Told.{toldNear, byWcnfRead, figuresOut}
 use Rattle.telling.specs.Told.{told, byWeighed, weightOut, byBounded, boundOut, bySearched, foundOut, byTextRead, headOut, byWritten, lengthOut}
-use Rattle.rules.specs.Table.{weighed}
+use Rattle.rules.specs.Table.{mostRows, weighed}
 use Rattle.rules.specs.Desk.{loadWhy, loadDesk, wellFormed as isWellFormed}
 use Rattle.rules.specs.Decide.{decideWhy, decideDesk}
 use Rattle.rules.specs.Rewrite.{rewriteWhy, rewriteDesk}
@@ -59,8 +59,9 @@ pub record TiedInC {M : Type 1} (𝓤 : URA M) (H : Heap 𝓤) (A : Atoms 𝓤) 
       (λ κs a. told (bySearched (searched (now (a .0)) (choiceOf (a .1 .0)) (a .1 .1 .0))))
       (λ κs a. (tt, (tt, (tt, (foundOut (searched (now (a .0)) (choiceOf (a .1 .0)) (a .1 .1 .0)) (now (a .1 .1 .1 .0)), tt)))))
   pub read : Tied 𝓤 H A read.ended (read.Statement.statement M) (read.spec 𝓤 H A memory run) (read.clauses 𝓤 H A memory run)
-      (λ κs a. told (byTextRead (textRead (now (a .0)) (length (now (a .1 .0))))))
-      (λ κs a. (tt, (readTable (now (a .0)) (now (a .1 .0)), (headOut (textRead (now (a .0)) (length (now (a .1 .0)))) (now (a .1 .1 .0)), tt))))
+      (λ κs a. told (byTextRead (textRead mostRows (now (a .0)) (length (now (a .1 .0))))))
+      (λ κs a. let r = textRead mostRows (now (a .0)) (length (now (a .1 .0))) in
+      (tt, (readTable mostRows (now (a .0)) (now (a .1 .0)), (headOut r (now (a .1 .1 .0)), tt))))
   pub write : Tied 𝓤 H A write.ended (write.Statement.statement M) (write.spec 𝓤 H A memory run) (write.clauses 𝓤 H A memory run)
       (λ κs a. told (byWritten (written (a .0) (a .1 .0) (now (a .1 .1 .0)) (now (a .1 .1 .1 .0)))))
       (λ κs a. let w = written (a .0) (a .1 .0) (now (a .1 .1 .0)) (now (a .1 .1 .1 .0)) in
@@ -69,8 +70,9 @@ pub record TiedInC {M : Type 1} (𝓤 : URA M) (H : Heap 𝓤) (A : Atoms 𝓤) 
       (λ κs a. told (byWritten (answered (now (a .0)) (now (a .1 .0)))))
       (λ κs a. (tt, (answerOut (now (a .0)) (now (a .1 .0)), (lengthOut (answered (now (a .0)) (now (a .1 .0))) (now (a .1 .1 .0)), tt))))
   pub readWcnf : Tied 𝓤 H A readWcnf.ended (readWcnf.Statement.statement M) (readWcnf.spec 𝓤 H A memory run) (readWcnf.clauses 𝓤 H A memory run)
-      (λ κs a. toldNear (byWcnfRead (wcnfRead (now (a .0)) (length (now (a .1 .0))))))
-      (λ κs a. (tt, (wcnfTable (now (a .0)) (now (a .1 .0)), (figuresOut (wcnfRead (now (a .0)) (length (now (a .1 .0)))) (now (a .1 .1 .0)), tt))))
+      (λ κs a. toldNear (byWcnfRead (wcnfRead mostRows (now (a .0)) (length (now (a .1 .0))))))
+      (λ κs a. let r = wcnfRead mostRows (now (a .0)) (length (now (a .1 .0))) in
+      (tt, (wcnfTable mostRows (now (a .0)) (now (a .1 .0)), (figuresOut r (now (a .1 .1 .0)), tt))))
   pub writeWcnf : Tied 𝓤 H A writeWcnf.ended (writeWcnf.Statement.statement M) (writeWcnf.spec 𝓤 H A memory run) (writeWcnf.clauses 𝓤 H A memory run)
       (λ κs a. told (byWritten (wcnfWritten (a .0) (now (a .1 .0)) (now (a .1 .1 .0)))))
       (λ κs a. let w = wcnfWritten (a .0) (now (a .1 .0)) (now (a .1 .1 .0)) in

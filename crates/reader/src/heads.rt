@@ -1,6 +1,8 @@
 // The first three lines, and what is due by them before the rows are judged.
 ghost use mathlib.Core.Path.{_≡_};
+ghost use Prim.Native.Nat.{_≤_};
 ghost use Rattle.rules.specs.declared.HeadRead.{HeadRead};
+ghost use Rattle.rules.specs.Table.{mostRows};
 ghost use Rattle.rules.specs.Reader.{headAt, headWhy};
 use crate::rows;
 use literals::Literal;
@@ -43,6 +45,7 @@ pub fn head_at(s: &[u8]) -> HeadRead
 
 // In the reader's order: 1, 9, 2, 4, the rest.
 pub fn head_why(
+    most: usize,
     s: &[u8],
     room: usize,
     variables: u64,
@@ -50,7 +53,8 @@ pub fn head_why(
     rows: u64,
     from: usize,
 ) -> Judged
-    ensures { λ r. ⌜ r ≡ headWhy (now (s .entry)) room (HeadRead.Lines variables budget rows from) ⌝ }
+    requires { ⌜ most ≤ mostRows ⌝ }
+    ensures { λ r. ⌜ r ≡ headWhy most (now (s .entry)) room (HeadRead.Lines variables budget rows from) ⌝ }
 {
     if variables > Literal::MOST {
         return Judged::Refused(Refusal::TooManyVariables);
@@ -59,7 +63,7 @@ pub fn head_why(
         return Judged::Refused(Refusal::BadBudget);
     }
     let count = rows as usize;
-    if count > Row::MOST {
+    if count > most {
         return Judged::Refused(Refusal::BadTable);
     }
     if room < Row::WORDS * count {

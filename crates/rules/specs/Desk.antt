@@ -21,7 +21,7 @@ abbrev pub headWords : ℕ
 headWords = 8
 
 abbrev pub mostCapacity : ℕ
-mostCapacity = 1_024
+mostCapacity = 4_096
 
 abbrev pub mostSteps : ℕ
 mostSteps = 256
@@ -83,7 +83,7 @@ weightOn d = conceded d + sum (inUse d) (λ i. rowOn d i .weight)
 unfoldable pub reaches : List ℕ → Bool
 reaches d = leb (capacity d) mostCapacity && leb (deskWords (capacity d)) (length d)
 
--- (b) variables at most 64, rows loaded at most 512 and at most rows in use, those at most C, steps at most 256
+-- (b) variables at most 64, rows loaded at most 2,048 and at most rows in use, those at most C, steps at most 256
 unfoldable pub inLimits : List ℕ → Bool
 inLimits d =
     leb (variables d) mostVariables

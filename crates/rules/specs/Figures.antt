@@ -10,7 +10,7 @@ use Rattle.rules.specs.Desk.{variables, inUse, capacity, standing, conce
 use Rattle.rules.specs.Steps.{mostKind, mostNamed, longest}
 use Rattle.rules.specs.Walk.{mostBudget}
 use Rattle.rules.specs.Text.{mostDigits}
-use Rattle.rules.specs.Program.{mostInput}
+use Rattle.rules.specs.Program.{mostInput, mostInputRows}
 
 unfoldable pub figures : Figures
 figures =
@@ -30,6 +30,7 @@ figures =
       digits = mostDigits;
       budget = mostBudget;
       input = mostInput;
+      «input_rows» = mostInputRows;
     }
 
 unfoldable pub headOf : List ℕ → Desk

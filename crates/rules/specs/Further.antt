@@ -1,14 +1,15 @@
 -- Further examples, beside document 01's own, in the same table: each limit from below and from above, and the words of a desk one by one.
--- The figures stand here as document 01 writes them, and not by name, so that a figure that is changed at its home is noticed.
-use Prim.Native.Nat.{ℕ, zero, suc, _+_}
+-- The first three have the figures as the documents write them, so that a figure that is changed at its home is noticed; behind them rows loaded and C
+-- stand by name.
+use Prim.Native.Nat.{ℕ, zero, suc, _+_, _-_}
 use mathlib.Core.List.{List, [], _∷_, _++_}
 use mathlib.Core.Bool.{Bool, true, false}
 use lib.ListN.{set, take, drop, replicate}
 use lib.IntN.{pos, negsuc}
 use Rattle.rules.specs.declared.Weighed.{Weighed}
 use Rattle.rules.specs.Refusals.{numberOf, placeOf}
-use Rattle.rules.specs.Table.{weighed}
-use Rattle.rules.specs.Desk.{inLimits, loadWhy, loadDesk}
+use Rattle.rules.specs.Table.{mostRows, weighed}
+use Rattle.rules.specs.Desk.{mostCapacity, deskWords, inLimits, loadWhy, loadDesk}
 use Rattle.rules.specs.Text.{bytes}
 use Rattle.rules.specs.Program.{answer}
 use Rattle.rules.specs.Figures.{figures}
@@ -80,12 +81,12 @@ stepsStand n = set (desk 1 [] 0) 3 n
 
 abbrev pub further : List Example
 further =
-    example "limit: 64 variables, 512 rows, 1,000,000,000 in weight, C to 1,024, 256 steps"
+    example "limit: 64 variables, 2,048 rows, 1,000,000,000 in weight, C to 4,096, 256 steps"
     (figures .variables ∷ figures .rows ∷ figures .weight ∷ figures .capacity ∷ figures .steps ∷ [])
-    (64 ∷ 512 ∷ 1_000_000_000 ∷ 1_024 ∷ 256 ∷ [])
-    ∷ example "limit: 12 rows named, 8 links, 10 digits, a budget of 32 bits, 65,536 bytes"
-    (figures .named ∷ figures .longest ∷ figures .digits ∷ figures .budget ∷ figures .input ∷ [])
-    (12 ∷ 8 ∷ 10 ∷ 4_294_967_295 ∷ 65_536 ∷ [])
+    (64 ∷ 2_048 ∷ 1_000_000_000 ∷ 4_096 ∷ 256 ∷ [])
+    ∷ example "limit: 12 rows named, 8 links, 10 digits, a budget of 32 bits; of an input 65,536 bytes and 512 rows"
+    (figures .named ∷ figures .longest ∷ figures .digits ∷ figures .budget ∷ figures .input ∷ figures .«input_rows» ∷ [])
+    (12 ∷ 8 ∷ 10 ∷ 4_294_967_295 ∷ 65_536 ∷ 512 ∷ [])
     ∷ example "layout: 3 words of a row, 8 of a head, 16 of an entry, 4,096 of all entries"
     (figures .«row_words» ∷ figures .head ∷ figures .«entry_words» ∷ figures .«entries_words» ∷ [])
     (3 ∷ 8 ∷ 16 ∷ 4_096 ∷ [])
@@ -98,23 +99,23 @@ further =
     ∷ example "limit: table words are a multiple of 3"
     (loading 1 (0 ∷ 0 ∷ []) 1 4107)
     (2 ∷ 0 ∷ [])
-    ∷ example "limit: 512 rows: not 2, but 3 where C is 511"
-    (loading 0 (empties 512) 511 5637)
+    ∷ example "limit: the most rows: not 2, but 3 where C is one below"
+    (loading 0 (empties mostRows) (mostRows - 1) (deskWords mostRows))
     (3 ∷ 0 ∷ [])
-    ∷ example "limit: 513 rows"
-    (loading 0 (empties 513) 511 5637)
+    ∷ example "limit: one row more"
+    (loading 0 (empties (suc mostRows)) (mostRows - 1) (deskWords mostRows))
     (2 ∷ 0 ∷ [])
     ∷ example "limit: C = the rows loaded"
     (loading 0 (empties 2) 2 4110)
     []
-    ∷ example "limit: C = 1,024"
-    (loading 0 [] 1024 7176)
+    ∷ example "limit: C at its most"
+    (loading 0 [] mostCapacity (deskWords mostCapacity))
     []
-    ∷ example "limit: C = 1,025"
-    (loading 0 [] 1025 7179)
+    ∷ example "limit: C one above"
+    (loading 0 [] (suc mostCapacity) (deskWords (suc mostCapacity)))
     (3 ∷ 0 ∷ [])
     ∷ example "limit: of 8 + 3C + 4,096 words one is missing"
-    (loading 0 [] 1024 7175)
+    (loading 0 [] 1000 7103)
     (4 ∷ 0 ∷ [])
     ∷ example "limit: a variable both ways, in row 1"
     (loading 2 (row [] 1 ++ row (x 2 ∷ not-x 2 ∷ []) 0) 2 4110)
@@ -140,32 +141,32 @@ further =
     ∷ example "layout: a refused load leaves the words as found"
     (but 3 4110 (loadDesk 1 (row (not-x 2 ∷ []) 7) 2 (replicate 4112 9)))
     (9 ∷ 9 ∷ 9 ∷ 36_963 ∷ 9 ∷ 9 ∷ [])
-    ∷ example "limit: (b) with 64 variables, 512 rows loaded, C in use, 256 steps"
-    (answerOf (inLimits (64 ∷ 1024 ∷ 1024 ∷ 256 ∷ 0 ∷ 0 ∷ 0 ∷ 512 ∷ [])))
+    ∷ example "limit: (b) with 64 variables, the most rows loaded, C in use, 256 steps"
+    (answerOf (inLimits (64 ∷ mostCapacity ∷ mostCapacity ∷ 256 ∷ 0 ∷ 0 ∷ 0 ∷ mostRows ∷ [])))
     (1 ∷ [])
     ∷ example "limit: (b) with 65 variables"
-    (answerOf (inLimits (65 ∷ 1024 ∷ 1024 ∷ 256 ∷ 0 ∷ 0 ∷ 0 ∷ 512 ∷ [])))
+    (answerOf (inLimits (65 ∷ mostCapacity ∷ mostCapacity ∷ 256 ∷ 0 ∷ 0 ∷ 0 ∷ mostRows ∷ [])))
     (0 ∷ [])
-    ∷ example "limit: (b) with 513 rows loaded"
-    (answerOf (inLimits (64 ∷ 1024 ∷ 1024 ∷ 256 ∷ 0 ∷ 0 ∷ 0 ∷ 513 ∷ [])))
+    ∷ example "limit: (b) with one row more loaded"
+    (answerOf (inLimits (64 ∷ mostCapacity ∷ mostCapacity ∷ 256 ∷ 0 ∷ 0 ∷ 0 ∷ suc mostRows ∷ [])))
     (0 ∷ [])
     ∷ example "limit: (b) with rows loaded above those in use"
-    (answerOf (inLimits (64 ∷ 511 ∷ 1024 ∷ 256 ∷ 0 ∷ 0 ∷ 0 ∷ 512 ∷ [])))
+    (answerOf (inLimits (64 ∷ (mostRows - 1) ∷ mostCapacity ∷ 256 ∷ 0 ∷ 0 ∷ 0 ∷ mostRows ∷ [])))
     (0 ∷ [])
     ∷ example "limit: (b) with rows in use above C"
-    (answerOf (inLimits (64 ∷ 1024 ∷ 1023 ∷ 256 ∷ 0 ∷ 0 ∷ 0 ∷ 512 ∷ [])))
+    (answerOf (inLimits (64 ∷ mostCapacity ∷ (mostCapacity - 1) ∷ 256 ∷ 0 ∷ 0 ∷ 0 ∷ mostRows ∷ [])))
     (0 ∷ [])
     ∷ example "limit: (b) with 257 steps"
-    (answerOf (inLimits (64 ∷ 1024 ∷ 1024 ∷ 257 ∷ 0 ∷ 0 ∷ 0 ∷ 512 ∷ [])))
+    (answerOf (inLimits (64 ∷ mostCapacity ∷ mostCapacity ∷ 257 ∷ 0 ∷ 0 ∷ 0 ∷ mostRows ∷ [])))
     (0 ∷ [])
     ∷ example "limit: (a) to (e) hold, nothing stands"
     (calling (desk 1 (row (x 1 ∷ []) 1) 1) takeBack)
     (16 ∷ 0 ∷ [])
-    ∷ example "limit: (a) with C = 1,025"
-    (calling ((0 ∷ 0 ∷ 1025 ∷ 0 ∷ 0 ∷ 0 ∷ 0 ∷ 0 ∷ []) ++ replicate 7171 0) takeBack)
+    ∷ example "limit: (a) with C one above its most"
+    (calling (set (replicate (deskWords (suc mostCapacity)) 0) 2 (suc mostCapacity)) takeBack)
     (10 ∷ 0 ∷ [])
     ∷ example "limit: (b) is asked"
-    (calling ((0 ∷ 513 ∷ 513 ∷ 0 ∷ 0 ∷ 0 ∷ 0 ∷ 513 ∷ []) ++ replicate 5635 0) takeBack)
+    (calling (set (replicate (deskWords 1) 0) 0 65) takeBack)
     (10 ∷ 0 ∷ [])
     ∷ example "limit: (c) with a variable above the count"
     (calling (set (desk 1 (row (x 1 ∷ []) 1) 1) 0 0) takeBack)

@@ -19,7 +19,7 @@ use Rattle.rules.specs.declared.Outcome.{Outcome}
 use Rattle.rules.specs.declared.TextRead.{TextRead}
 use Rattle.rules.specs.declared.Written.{Written}
 use Rattle.rules.specs.Refusals.{numberOf, placeOf}
-use Rattle.rules.specs.Table.{rowWords, mostRows}
+use Rattle.rules.specs.Table.{rowWords}
 use Rattle.rules.specs.Desk.{deskWords, loadWhy, loadStep, decisions}
 use Rattle.rules.specs.Choice.{lossesBy}
 use Rattle.rules.specs.Walk.{walkIn, foundBy}
@@ -29,6 +29,10 @@ use Rattle.rules.specs.Reader.{textRead, readWords}
 -- 19: input over 65,536 bytes
 abbrev pub mostInput : ℕ
 mostInput = 65_536
+
+-- "The program still refuses over 512 rows with 2, where the reader would."
+abbrev pub mostInputRows : ℕ
+mostInputRows = 512
 
 -- "A refusal writes three lines: status=refused, number=, place=."
 unfoldable pub refusalText : Refusal → List ℕ
@@ -92,7 +96,7 @@ readOutcome table (TextRead.Refused r) = Outcome.Refused r
 -- Program: 19, reader, load.
 unfoldable pub outcomeOf : List ℕ → Outcome
 outcomeOf input =
-    cond (ltb mostInput (length input)) (Outcome.Refused InputTooLong) (readOutcome (readWords input) (textRead input (rowWords * mostRows)))
+    cond (ltb mostInput (length input)) (Outcome.Refused InputTooLong) (readOutcome (readWords input) (textRead mostInputRows input (rowWords * mostInputRows)))
 
 unfoldable pub answer : List ℕ → List ℕ
 answer input = outcomeText (outcomeOf input)

@@ -140,14 +140,15 @@ abbrev pub restWhy : List ℕ → ℕ → RowsRead → Judged
 restWhy s m (rows words next) = firstDue (BadText (firstRowLine + rowLines * m) when not (eqb next (length s)) ∷ [])
 restWhy s m (brokenAt line) = Refused (BadText line)
 
--- Reader: first three lines (20), 1, 9, 2, 4, the rest (20).
-abbrev pub headWhy : List ℕ → ℕ → HeadRead → Judged
-headWhy s room (HeadRead.Lines variables budget m next) =
-    firstDue (figuresOrder room variables budget m ++ (asIn (restWhy s m (rowsAt m s next firstRowLine)) ∷ []))
-headWhy s room (HeadRead.Broken line) = Refused (BadText line)
+-- Reader: first three lines (20), 1, 9, 2, 4, the rest (20). Its first argument is the most rows that it takes: a program takes fewer than may be
+-- loaded.
+abbrev pub headWhy : ℕ → List ℕ → ℕ → HeadRead → Judged
+headWhy most s room (HeadRead.Lines variables budget m next) =
+    firstDue (figuresOrder most room variables budget m ++ (asIn (restWhy s m (rowsAt m s next firstRowLine)) ∷ []))
+headWhy most s room (HeadRead.Broken line) = Refused (BadText line)
 
-unfoldable pub readWhy : List ℕ → ℕ → Judged
-readWhy s room = headWhy s room (headAt s)
+unfoldable pub readWhy : ℕ → List ℕ → ℕ → Judged
+readWhy most s room = headWhy most s room (headAt s)
 
 -- the rows as they stand
 abbrev pub wordsOf : RowsRead → List ℕ
@@ -172,9 +173,9 @@ textReadAs Fine (HeadRead.Broken line) = TextRead.Refused (BadText line)
 textReadAs (Refused r) head = TextRead.Refused r
 
 -- variables, budget and rows, or the refusal
-unfoldable pub textRead : List ℕ → ℕ → TextRead
-textRead s room = textReadAs (readWhy s room) (headAt s)
+unfoldable pub textRead : ℕ → List ℕ → ℕ → TextRead
+textRead most s room = textReadAs (readWhy most s room) (headAt s)
 
 -- the lent words afterwards
-unfoldable pub readTable : List ℕ → List ℕ → List ℕ
-readTable s table = unlessRefused (readWhy s (length table)) (readStep s table) table
+unfoldable pub readTable : ℕ → List ℕ → List ℕ → List ℕ
+readTable most s table = unlessRefused (readWhy most s (length table)) (readStep s table) table

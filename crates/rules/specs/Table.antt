@@ -21,7 +21,7 @@ rowWords = 3
 
 -- rows that may be loaded
 abbrev pub mostRows : ℕ
-mostRows = 512
+mostRows = 2_048
 
 -- the limit of a weight, and of the weights' sum
 abbrev pub mostWeight : ℕ
@@ -62,7 +62,7 @@ givenUp row reading = cond (holds (row .lits) reading) 0 (row .weight)
 unfoldable pub weighs : List ℕ → ℕ → ℕ
 weighs table reading = sum (rowCount table) (λ i. givenUp (rowOf table i) reading)
 
--- 2: table words not a multiple of 3, or over 512 rows
+-- 2: table words not a multiple of 3, or over 2,048 rows
 unfoldable pub badTable : List ℕ → Bool
 badTable table = not (eqb (length table % rowWords) 0) || ltb mostRows (rowCount table)
 

@@ -16,7 +16,7 @@ use Rattle.rules.specs.declared.Refusal.the-variants.{TooManyVariables, 
 use Rattle.rules.specs.declared.Judged.{Judged}
 use Rattle.rules.specs.declared.Judged.the-variants.{Fine, Refused}
 use Rattle.rules.specs.Refusals.{Rule, _when_, asIn, firstDue, unlessRefused}
-use Rattle.rules.specs.Table.{rowWords, mostRows, rowCount, rowOf, tableWhy}
+use Rattle.rules.specs.Table.{rowWords, rowCount, rowOf, tableWhy}
 use Rattle.rules.specs.Walk.{mostBudget}
 
 -- a text as its bytes
@@ -110,8 +110,9 @@ written variables budget table out = textWritten (tableWhy variables table) (tab
 abbrev pub writeOut : ℕ → ℕ → List ℕ → List ℕ → List ℕ
 writeOut variables budget table out = textOut (tableWhy variables table) (tableText variables budget table) out
 
--- Reader: first three lines (20), 1, 9, 2, 4, the rest (20). What the first three lines say is judged by 1, 9, 2, 4.
-abbrev pub figuresOrder : ℕ → ℕ → ℕ → ℕ → List Rule
-figuresOrder room variables budget m =
-    TooManyVariables when ltb mostVariables variables ∷ BadBudget when ltb mostBudget budget ∷ BadTable when ltb mostRows m
+-- Reader: first three lines (20), 1, 9, 2, 4, the rest (20). What the first three lines say is judged by 1, 9, 2, 4; the first argument is the
+-- most rows that this reader takes.
+abbrev pub figuresOrder : ℕ → ℕ → ℕ → ℕ → ℕ → List Rule
+figuresOrder most room variables budget m =
+    TooManyVariables when ltb mostVariables variables ∷ BadBudget when ltb mostBudget budget ∷ BadTable when ltb most m
     ∷ NoRoom when ltb room (rowWords * m) ∷ []

@@ -16,12 +16,12 @@ use Rattle.rules.specs.declared.Outcome.{Outcome}
 use Rattle.rules.specs.declared.WcnfRead.{WcnfRead}
 use Rattle.rules.specs.declared.Written.{Written}
 use Rattle.rules.specs.Refusals.{numberOf, placeOf}
-use Rattle.rules.specs.Table.{rowWords, mostRows}
+use Rattle.rules.specs.Table.{rowWords}
 use Rattle.rules.specs.Walk.{mostBudget}
 use Rattle.rules.specs.Text.{bytes, numberText, line, textWhy, textWritten, textOut}
 use Rattle.rules.specs.Wcnf.{spacedLits}
 use Rattle.rules.specs.WcnfReader.{wcnfRead, wcnfWords}
-use Rattle.rules.specs.Program.{mostInput, literalsOf, tableOutcome}
+use Rattle.rules.specs.Program.{mostInput, mostInputRows, literalsOf, tableOutcome}
 
 -- the statement: nothing is stated of a search that was stopped, nor of a refusal
 abbrev pub statementText : Status → List ℕ
@@ -61,7 +61,8 @@ wcnfReadOutcome table (WcnfRead.Refused r) = Outcome.Refused r
 -- Program: 19, reader, load.
 unfoldable pub wcnfOutcomeOf : List ℕ → Outcome
 wcnfOutcomeOf input =
-    cond (ltb mostInput (length input)) (Outcome.Refused InputTooLong) (wcnfReadOutcome (wcnfWords input) (wcnfRead input (rowWords * mostRows)))
+    cond (ltb mostInput (length input)) (Outcome.Refused InputTooLong)
+    (wcnfReadOutcome (wcnfWords input) (wcnfRead mostInputRows input (rowWords * mostInputRows)))
 
 unfoldable pub wcnfAnswer : List ℕ → List ℕ
 wcnfAnswer input = wcnfOutcomeText (wcnfOutcomeOf input)

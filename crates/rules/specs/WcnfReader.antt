@@ -15,7 +15,7 @@ use Rattle.rules.specs.declared.Refusal.the-variants.{TooManyVariables, 
 use Rattle.rules.specs.declared.Judged.{Judged}
 use Rattle.rules.specs.declared.Judged.the-variants.{Fine, Refused}
 use Rattle.rules.specs.Refusals.{_when_, asIn, firstDue, unlessRefused}
-use Rattle.rules.specs.Table.{rowWords, mostRows, rowWordsOf, newRow, badLits}
+use Rattle.rules.specs.Table.{rowWords, rowWordsOf, newRow, badLits}
 use Rattle.rules.specs.Text.{bytes, lineFeed, space, minus}
 use Rattle.rules.specs.Reader.{stands, numberAt, ended, onNumber}
 
@@ -111,15 +111,15 @@ clausesWhy (suc m) i variables top s at line =
     firstDue (BadLiterals i when badMembers variables ls ∷ WeightAtTop i when leb top w
     ∷ asIn (clausesWhy m (suc i) variables top s next (line + 1)) ∷ []))
 
--- "After the header come 1, 2 and 4 by its figures"
-abbrev pub headerWhy : List ℕ → ℕ → WcnfHead → Judged
-headerWhy s room (WcnfHead.Figures variables clauses top next line) =
-    firstDue (TooManyVariables when ltb mostVariables variables ∷ BadTable when ltb mostRows clauses ∷ NoRoom when ltb room (rowWords * clauses)
+-- "After the header come 1, 2 and 4 by its figures"; the first argument is the most rows that this reader takes
+abbrev pub headerWhy : ℕ → List ℕ → ℕ → WcnfHead → Judged
+headerWhy most s room (WcnfHead.Figures variables clauses top next line) =
+    firstDue (TooManyVariables when ltb mostVariables variables ∷ BadTable when ltb most clauses ∷ NoRoom when ltb room (rowWords * clauses)
     ∷ asIn (clausesWhy clauses 0 variables top s next (line + 1)) ∷ [])
-headerWhy s room (WcnfHead.Broken line) = Refused (BadText line)
+headerWhy most s room (WcnfHead.Broken line) = Refused (BadText line)
 
-unfoldable pub wcnfReadWhy : List ℕ → ℕ → Judged
-wcnfReadWhy s room = headerWhy s room (headerOf s)
+unfoldable pub wcnfReadWhy : ℕ → List ℕ → ℕ → Judged
+wcnfReadWhy most s room = headerWhy most s room (headerOf s)
 
 -- the table that the clauses make
 unfoldable pub clausesWords : ℕ → List ℕ → ℕ → List ℕ
@@ -139,11 +139,11 @@ wcnfReadAs Fine (WcnfHead.Broken line) = WcnfRead.Refused (BadText line)
 wcnfReadAs (Refused r) head = WcnfRead.Refused r
 
 -- variables and rows, or the refusal
-unfoldable pub wcnfRead : List ℕ → ℕ → WcnfRead
-wcnfRead s room = wcnfReadAs (wcnfReadWhy s room) (headerOf s)
+unfoldable pub wcnfRead : ℕ → List ℕ → ℕ → WcnfRead
+wcnfRead most s room = wcnfReadAs (wcnfReadWhy most s room) (headerOf s)
 
 -- the lent words afterwards
-unfoldable pub wcnfTable : List ℕ → List ℕ → List ℕ
-wcnfTable s table =
+unfoldable pub wcnfTable : ℕ → List ℕ → List ℕ → List ℕ
+wcnfTable most s table =
     let words = wcnfWords s in
-    unlessRefused (wcnfReadWhy s (length table)) (words ++ drop (length words) table) table
+    unlessRefused (wcnfReadWhy most s (length table)) (words ++ drop (length words) table) table

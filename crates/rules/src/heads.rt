@@ -25,7 +25,7 @@ impl Desk {
 
     pub const LOADED: usize = 7;
     // Rows that a desk may have room for.
-    pub const MOST_CAPACITY: u64 = 1_024;
+    pub const MOST_CAPACITY: u64 = 4_096;
     // Steps that may stand.
     pub const MOST_STEPS: u64 = 256;
 

@@ -48,6 +48,7 @@ pub struct Figures {
     pub digits: usize,
     pub budget: u64,
     pub input: usize,
+    pub input_rows: usize,
 }
 
 // A partial reading: the variables that have a value, and those of them that are true.

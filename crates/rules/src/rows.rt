@@ -8,7 +8,7 @@ impl Row {
     // Words of a row: mask of positive literals, mask of negative ones, weight.
     pub const WORDS: usize = 3;
     // Rows that may be loaded.
-    pub const MOST: usize = 512;
+    pub const MOST: usize = 2_048;
     // The limit of a weight, and of the weights' sum.
     pub const MOST_WEIGHT: u64 = 1_000_000_000;
 

@@ -19,6 +19,8 @@ impl TextRead {
     pub const MOST_BUDGET: u64 = 4_294_967_295;
     // Bytes that the program reads.
     pub const MOST_INPUT: usize = 65_536;
+    // Rows that the program reads.
+    pub const MOST_INPUT_ROWS: usize = 512;
 }
 
 pub fn all_figures() -> Figures
@@ -40,5 +42,6 @@ pub fn all_figures() -> Figures
         digits: Parsed::DIGITS,
         budget: TextRead::MOST_BUDGET,
         input: TextRead::MOST_INPUT,
+        input_rows: TextRead::MOST_INPUT_ROWS,
     }
 }

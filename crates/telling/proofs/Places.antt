@@ -269,18 +269,18 @@ head-within s = by-vars (numberLine s 0 (bytes "vars="))
     by-vars (Parsed.Number v next) = by-budget v (numberLine s next (bytes "budget="))
     by-vars Parsed.Broken = omega arith
 
-head-small : (s : List ℕ) (room : ℕ) (h : HeadRead) → head-line h < firstRowLine → Small (headWhy s room h)
-head-small s room (HeadRead.Lines v b m next) e =
+head-small : (most : ℕ) (s : List ℕ) (room : ℕ) → most ≤ mostRows → (h : HeadRead) → head-line h < firstRowLine → Small (headWhy most s room h)
+head-small most s room l (HeadRead.Lines v b m next) e =
     refuse-small (ltb mostVariables v) TooManyVariables _ (omega arith) (λ _.
     refuse-small (ltb mostBudget b) BadBudget _ (omega arith) (λ _.
-    refuse-small (ltb mostRows m) BadTable _ (omega arith) (λ few.
+    refuse-small (ltb most m) BadTable _ (omega arith) (λ few.
     refuse-small (ltb room (rowWords * m)) NoRoom _ (omega arith) (λ _.
-    rest-small s m (rowsAt m s next firstRowLine) (ltb-false mostRows m few) (rows-within m s next firstRowLine)))))
-head-small s room (HeadRead.Broken line) e = omega (arith, e)
+    rest-small s m (rowsAt m s next firstRowLine) (omega (arith, l, ltb-false most m few)) (rows-within m s next firstRowLine)))))
+head-small most s room l (HeadRead.Broken line) e = omega (arith, e)
 
-pub read-small : (s : List ℕ) (room : ℕ) → Small (byTextRead (textRead s room))
+pub read-small : (most : ℕ) (s : List ℕ) (room : ℕ) → most ≤ mostRows → Small (byTextRead (textRead most s room))
 unfolding textRead readWhy
-read-small s room = as-judged (headAt s) (readWhy s room) (head-within s) (head-small s room (headAt s) (head-within s))
+read-small most s room l = as-judged (headAt s) (readWhy most s room) (head-within s) (head-small most s room l (headAt s) (head-within s))
   where
     as-judged : (h : HeadRead) (j : Judged) → head-line h < firstRowLine → Small j → Small (byTextRead (textReadAs j h))
     as-judged (HeadRead.Lines v b m next) Fine w e = e

@@ -47,51 +47,53 @@ head-and-rows s n b m next words e f =
     let long : length (tableText n b words) ≡ length s = ap length text ∙ head-length n b m (rowsText words m) ∙ sym end in
     stands-whole s (tableText n b words) (rw text (head .stand (rowsText words m) (body .stand))) long
 
-judged : (s : List ℕ) (room n b m next : ℕ) → headAt s ≡ HeadRead.Lines n b m next → (j : Judged) → headWhy s room (HeadRead.Lines n b m next) ≡ j
+judged : (most : ℕ) (s : List ℕ) (room n b m next : ℕ) → headAt s ≡ HeadRead.Lines n b m next
+    → (j : Judged) → headWhy most s room (HeadRead.Lines n b m next) ≡ j
     → (v c k : ℕ) → textReadAs j (HeadRead.Lines n b m next) ≡ TextRead.Table v c k → s ≡ tableText v c (readWords s)
 unfolding readWords
-judged s room n b m next e Fine why v c k h =
+judged most s room n b m next e Fine why v c k h =
     let nv : n ≡ v = cc in
     let bc : b ≡ c = cc in
-    let fine = head-fine s room n b m next why in
+    let fine = head-fine most s room n b m next why in
     let body = rest-words s m (rowsAt m s next firstRowLine) (fine .rest) in
     rw (e, ← nv, ← bc) (head-and-rows s n b m next (wordsOf (rowsAt m s next firstRowLine)) e body)
-judged s room n b m next e (Refused r) why v c k h = impossible (cc)
+judged most s room n b m next e (Refused r) why v c k h = impossible (cc)
 
-pub converse : (s : List ℕ) (room n b m : ℕ) → textRead s room ≡ TextRead.Table n b m → s ≡ tableText n b (readWords s)
+pub converse : (most : ℕ) (s : List ℕ) (room n b m : ℕ) → textRead most s room ≡ TextRead.Table n b m → s ≡ tableText n b (readWords s)
 unfolding textRead readWhy
-converse s room n b m h = go (headAt s) refl
+converse most s room n b m h = go (headAt s) refl
   where
     go : (x : HeadRead) → headAt s ≡ x → s ≡ tableText n b (readWords s)
     go (HeadRead.Lines v c k next) e =
-        let h2 : textReadAs (headWhy s room (HeadRead.Lines v c k next)) (HeadRead.Lines v c k next) ≡ TextRead.Table n b m = rw e at h in
-        judged s room v c k next e (headWhy s room (HeadRead.Lines v c k next)) refl n b m h2
+        let h2 : textReadAs (headWhy most s room (HeadRead.Lines v c k next)) (HeadRead.Lines v c k next) ≡ TextRead.Table n b m = rw e at h in
+        judged most s room v c k next e (headWhy most s room (HeadRead.Lines v c k next)) refl n b m h2
     go (HeadRead.Broken bad) e =
         let h2 : TextRead.Refused (BadText bad) ≡ TextRead.Table n b m = rw e at h in
         impossible (cc)
 
 -- and there are as many words as the rows say
-pub word-count : (s : List ℕ) (room n b m : ℕ) → textRead s room ≡ TextRead.Table n b m → length (readWords s) ≡ rowWords * m
+pub word-count : (most : ℕ) (s : List ℕ) (room n b m : ℕ) → textRead most s room ≡ TextRead.Table n b m → length (readWords s) ≡ rowWords * m
 unfolding textRead readWhy readWords
-word-count s room n b m h = go (headAt s) refl
+word-count most s room n b m h = go (headAt s) refl
   where
-    counted : (v c k next : ℕ) (j : Judged) → headWhy s room (HeadRead.Lines v c k next) ≡ j → textReadAs j (HeadRead.Lines v c k next) ≡ TextRead.Table n b m
+    counted : (v c k next : ℕ) (j : Judged) → headWhy most s room (HeadRead.Lines v c k next) ≡ j
+        → textReadAs j (HeadRead.Lines v c k next) ≡ TextRead.Table n b m
         → length (wordsOf (rowsAt k s next firstRowLine)) ≡ rowWords * m
     counted v c k next Fine why q =
         let km : k ≡ m = cc in
-        let body = rest-words s k (rowsAt k s next firstRowLine) (head-fine s room v c k next why .rest) in
+        let body = rest-words s k (rowsAt k s next firstRowLine) (head-fine most s room v c k next why .rest) in
         rows-found k s next firstRowLine (wordsOf (rowsAt k s next firstRowLine)) (length s) body .long ∙ ap (λ (x : ℕ). rowWords * x) km
     counted v c k next (Refused r) why q = impossible (cc)
 
     go : (x : HeadRead) → headAt s ≡ x → length (readWords s) ≡ rowWords * m
     go (HeadRead.Lines v c k next) e =
-        let h2 : textReadAs (headWhy s room (HeadRead.Lines v c k next)) (HeadRead.Lines v c k next) ≡ TextRead.Table n b m = rw e at h in
-        rw e (counted v c k next (headWhy s room (HeadRead.Lines v c k next)) refl h2)
+        let h2 : textReadAs (headWhy most s room (HeadRead.Lines v c k next)) (HeadRead.Lines v c k next) ≡ TextRead.Table n b m = rw e at h in
+        rw e (counted v c k next (headWhy most s room (HeadRead.Lines v c k next)) refl h2)
     go (HeadRead.Broken bad) e =
         let h2 : TextRead.Refused (BadText bad) ≡ TextRead.Table n b m = rw e at h in
         impossible (cc)
 
 -- so no two texts are read as the same variables, budget and words
-pub one-spelling : (s t : List ℕ) (room other n b m : ℕ) → textRead s room ≡ TextRead.Table n b m → textRead t other ≡ TextRead.Table n b m
+pub one-spelling : (most : ℕ) (s t : List ℕ) (room other n b m : ℕ) → textRead most s room ≡ TextRead.Table n b m → textRead most t other ≡ TextRead.Table n b m
     → readWords s ≡ readWords t → s ≡ t
-one-spelling s t room other n b m p q e = converse s room n b m p ∙ ap (tableText n b) e ∙ sym (converse t other n b m q)
+one-spelling most s t room other n b m p q e = converse most s room n b m p ∙ ap (tableText n b) e ∙ sym (converse most t other n b m q)

@@ -18,48 +18,48 @@ use Rattle.rules.specs.declared.Refusal.the-variants.{TooManyVariables, BadTabl
 use Rattle.rules.specs.declared.Judged.the-variants.{Fine, Refused}
 use Rattle.rules.specs.Reader.{rowAt, RowsRead, rows, brokenAt, onRow, inFront, rowsAt, headAt, restWhy, headWhy}
 use Rattle.rules.specs.Reader.{readWhy, wordsOf, readWords, readStep, readTable, textRead}
-use Rattle.rules.specs.Table.{rowWordsOf, rowWords, mostRows}
+use Rattle.rules.specs.Table.{rowWordsOf, rowWords}
 use Rattle.rules.specs.Reader.{firstRowLine, rowLines}
 use Rattle.rules.specs.Walk.{mostBudget}
 use Rattle.rules.proofs.Judging.{refuse-fine}
 
 -- ---- the head's figures, in order
 
-module _ (s : List ℕ) (room n b m next : ℕ) where
-  pub over-variables : mostVariables < n → headWhy s room (HeadRead.Lines n b m next) ≡ Refused TooManyVariables
+module _ (most : ℕ) (s : List ℕ) (room n b m next : ℕ) where
+  pub over-variables : mostVariables < n → headWhy most s room (HeadRead.Lines n b m next) ≡ Refused TooManyVariables
   over-variables h = rw (lt-ltb mostVariables n h)
 
-  pub over-budget : n ≤ mostVariables → mostBudget < b → headWhy s room (HeadRead.Lines n b m next) ≡ Refused BadBudget
+  pub over-budget : n ≤ mostVariables → mostBudget < b → headWhy most s room (HeadRead.Lines n b m next) ≡ Refused BadBudget
   over-budget g h = rw (le-ltb mostVariables n g, lt-ltb mostBudget b h)
 
-  pub over-rows : n ≤ mostVariables → b ≤ mostBudget → mostRows < m → headWhy s room (HeadRead.Lines n b m next) ≡ Refused BadTable
-  over-rows g h i = rw (le-ltb mostVariables n g, le-ltb mostBudget b h, lt-ltb mostRows m i)
+  pub over-rows : n ≤ mostVariables → b ≤ mostBudget → most < m → headWhy most s room (HeadRead.Lines n b m next) ≡ Refused BadTable
+  over-rows g h i = rw (le-ltb mostVariables n g, le-ltb mostBudget b h, lt-ltb most m i)
 
-  pub over-room : n ≤ mostVariables → b ≤ mostBudget → m ≤ mostRows → room < rowWords * m → headWhy s room (HeadRead.Lines n b m next) ≡ Refused NoRoom
-  over-room g h i j = rw (le-ltb mostVariables n g, le-ltb mostBudget b h, le-ltb mostRows m i, lt-ltb room (rowWords * m) j)
+  pub over-room : n ≤ mostVariables → b ≤ mostBudget → m ≤ most → room < rowWords * m → headWhy most s room (HeadRead.Lines n b m next) ≡ Refused NoRoom
+  over-room g h i j = rw (le-ltb mostVariables n g, le-ltb mostBudget b h, le-ltb most m i, lt-ltb room (rowWords * m) j)
 
-  pub to-rest : n ≤ mostVariables → b ≤ mostBudget → m ≤ mostRows → rowWords * m ≤ room
-      → headWhy s room (HeadRead.Lines n b m next) ≡ restWhy s m (rowsAt m s next firstRowLine)
-  to-rest g h i j = rw (le-ltb mostVariables n g, le-ltb mostBudget b h, le-ltb mostRows m i, le-ltb room (rowWords * m) j)
+  pub to-rest : n ≤ mostVariables → b ≤ mostBudget → m ≤ most → rowWords * m ≤ room
+      → headWhy most s room (HeadRead.Lines n b m next) ≡ restWhy s m (rowsAt m s next firstRowLine)
+  to-rest g h i j = rw (le-ltb mostVariables n g, le-ltb mostBudget b h, le-ltb most m i, le-ltb room (rowWords * m) j)
 
 -- what a fine head says
-pub record HeadFine (s : List ℕ) (room n b m next : ℕ) : Type 0 where
+pub record HeadFine (most : ℕ) (s : List ℕ) (room n b m next : ℕ) : Type 0 where
   pub variables : n ≤ mostVariables
   pub budget : b ≤ mostBudget
-  pub few : m ≤ mostRows
+  pub few : m ≤ most
   pub fits : rowWords * m ≤ room
   pub rest : restWhy s m (rowsAt m s next firstRowLine) ≡ Fine
 
-pub head-fine : (s : List ℕ) (room n b m next : ℕ) → headWhy s room (HeadRead.Lines n b m next) ≡ Fine → HeadFine s room n b m next
-head-fine s room n b m next e =
+pub head-fine : (most : ℕ) (s : List ℕ) (room n b m next : ℕ) → headWhy most s room (HeadRead.Lines n b m next) ≡ Fine → HeadFine most s room n b m next
+head-fine most s room n b m next e =
     let p1 = refuse-fine (ltb mostVariables n) TooManyVariables _ e in
     let p2 = refuse-fine (ltb mostBudget b) BadBudget _ (p1 .1) in
-    let p3 = refuse-fine (ltb mostRows m) BadTable _ (p2 .1) in
+    let p3 = refuse-fine (ltb most m) BadTable _ (p2 .1) in
     let p4 = refuse-fine (ltb room (rowWords * m)) NoRoom _ (p3 .1) in
     record {
       variables = ltb-false mostVariables n (p1 .0);
       budget = ltb-false mostBudget b (p2 .0);
-      few = ltb-false mostRows m (p3 .0);
+      few = ltb-false most m (p3 .0);
       fits = ltb-false room (rowWords * m) (p4 .0);
       rest = p4 .1;
     }
@@ -83,23 +83,23 @@ words-length (suc m) s at line = go (rowAt s at line) (λ next. words-length m s
 
 -- ---- the answer, and the lent words
 
-module _ (s : List ℕ) (table : List ℕ) where
+module _ (most : ℕ) (s : List ℕ) (table : List ℕ) where
   pub read-broken : (line : ℕ) → headAt s ≡ HeadRead.Broken line
-      → (TextRead.Refused (BadText line) ≡ textRead s (length table)) × (table ≡ readTable s table)
+      → (TextRead.Refused (BadText line) ≡ textRead most s (length table)) × (table ≡ readTable most s table)
   unfolding textRead readTable readWhy
   read-broken line e = (rw e, rw e)
 
   pub read-refused : (n b m next : ℕ) (r : Refusal) → headAt s ≡ HeadRead.Lines n b m next
-      → headWhy s (length table) (HeadRead.Lines n b m next) ≡ Refused r
-      → (TextRead.Refused r ≡ textRead s (length table)) × (table ≡ readTable s table)
+      → headWhy most s (length table) (HeadRead.Lines n b m next) ≡ Refused r
+      → (TextRead.Refused r ≡ textRead most s (length table)) × (table ≡ readTable most s table)
   unfolding textRead readTable readWhy
   read-refused n b m next r e h = (rw (e, h), rw (e, h))
 
   pub read-fine : (n b m next : ℕ) → headAt s ≡ HeadRead.Lines n b m next
-      → headWhy s (length table) (HeadRead.Lines n b m next) ≡ Fine
-      → (TextRead.Table n b m ≡ textRead s (length table)) × (sets table 0 (wordsOf (rowsAt m s next firstRowLine)) ≡ readTable s table)
+      → headWhy most s (length table) (HeadRead.Lines n b m next) ≡ Fine
+      → (TextRead.Table n b m ≡ textRead most s (length table)) × (sets table 0 (wordsOf (rowsAt m s next firstRowLine)) ≡ readTable most s table)
   unfolding textRead readTable readWhy readStep readWords
   read-fine n b m next e h =
       let words = wordsOf (rowsAt m s next firstRowLine) in
-      let fits : 0 + length words ≤ length table = omega (arith, words-length m s next firstRowLine, head-fine s (length table) n b m next h .fits) in
+      let fits : 0 + length words ≤ length table = omega (arith, words-length m s next firstRowLine, head-fine most s (length table) n b m next h .fits) in
       (rw (e, h), rw (e, h) (sets-eq words table 0 fits ∙ rw (zero-add (length words))))

@@ -38,25 +38,26 @@ fine-held n row h f =
       light = omega (arith, f .light);
     }
 
-pub record ReadBack (text : List ℕ) (room n b : ℕ) (table : List ℕ) : Type 0 where
-  pub answer : textRead text room ≡ TextRead.Table n b (rowCount table)
-  pub fine : readWhy text room ≡ Fine
+pub record ReadBack (most : ℕ) (text : List ℕ) (room n b : ℕ) (table : List ℕ) : Type 0 where
+  pub answer : textRead most text room ≡ TextRead.Table n b (rowCount table)
+  pub fine : readWhy most text room ≡ Fine
   pub words : readWords text ≡ table
 
 -- from what the parts are read as
-put-together : (s : List ℕ) (room n b m : ℕ) (table : List ℕ) (next : ℕ) → headAt s ≡ HeadRead.Lines n b m next
-    → n ≤ mostVariables → b ≤ mostBudget → m ≤ mostRows → rowWords * m ≤ room
-    → rowsAt m s next firstRowLine ≡ rows table (length s) → (textRead s room ≡ TextRead.Table n b m) × (readWhy s room ≡ Fine) × (readWords s ≡ table)
+put-together : (most : ℕ) (s : List ℕ) (room n b m : ℕ) (table : List ℕ) (next : ℕ) → headAt s ≡ HeadRead.Lines n b m next
+    → n ≤ mostVariables → b ≤ mostBudget → m ≤ most → rowWords * m ≤ room
+    → rowsAt m s next firstRowLine ≡ rows table (length s)
+    → (textRead most s room ≡ TextRead.Table n b m) × (readWhy most s room ≡ Fine) × (readWords s ≡ table)
 unfolding textRead readWhy readWords
-put-together s room n b m table next head ln lb lm lr body =
+put-together most s room n b m table next head ln lb lm lr body =
     let rest : restWhy s m (rowsAt m s next firstRowLine) ≡ Fine = rw (body, eq-eqb (length s) (length s) refl) in
-    let why : headWhy s room (HeadRead.Lines n b m next) ≡ Fine = to-rest s room n b m next ln lb lm lr ∙ rest in
+    let why : headWhy most s room (HeadRead.Lines n b m next) ≡ Fine = to-rest most s room n b m next ln lb lm lr ∙ rest in
     (rw (head, why), rw head why, rw (head, body))
 
 -- whatever the form holds is read back, where its figures keep their limits
-pub held-trip : (n b : ℕ) (table : List ℕ) (room : ℕ) → Held n b table → n ≤ mostVariables → b ≤ mostBudget → rowCount table ≤ mostRows
-    → length table ≤ room → ReadBack (tableText n b table) room n b table
-held-trip n b table room held ln lb lm lr =
+pub held-trip : (most n b : ℕ) (table : List ℕ) (room : ℕ) → Held n b table → n ≤ mostVariables → b ≤ mostBudget → rowCount table ≤ most
+    → length table ≤ room → ReadBack most (tableText n b table) room n b table
+held-trip most n b table room held ln lb lm lr =
     let m = rowCount table in
     let s = tableText n b table in
     let text = rowsText table m in
@@ -65,12 +66,12 @@ held-trip n b table room held ln lb lm lr =
     let end : headEnd n b m + length text ≡ length s = sym (ap length (table-text n b table) ∙ head-length n b m text) in
     let body : rowsAt m s (headEnd n b m) firstRowLine ≡ rows table (length s) =
     rows-read-back m s (headEnd n b m) firstRowLine table (held .whole) (held .rows) (head .1) ∙ ap (rows table) end in
-    let w = put-together s room n b m table (headEnd n b m) (head .0) ln lb lm (omega (arith, held .whole)) body in
+    let w = put-together most s room n b m table (headEnd n b m) (head .0) ln lb lm (omega (arith, held .whole)) body in
     record { answer = w .0; fine = w .1; words = w .2 }
 
 -- an admissible table is held
 pub round-trip : (n b : ℕ) (table : List ℕ) (room : ℕ) → isFine (tableWhy n table) ≡ true → b ≤ mostBudget → length table ≤ room
-    → ReadBack (tableText n b table) room n b table
+    → ReadBack mostRows (tableText n b table) room n b table
 round-trip n b table room ok lb lr =
     let fine = table-fine n table (is-fine (tableWhy n table) ok) in
     let held : Held n b table =
@@ -81,4 +82,4 @@ round-trip n b table room ok lb lr =
       whole = fine .whole;
       rows = λ j l. fine-held n (rowOf table j) (fine .variables) (fine .rows j l);
     } in
-    held-trip n b table room held (fine .variables) lb (fine .few) lr
+    held-trip mostRows n b table room held (fine .variables) lb (fine .few) lr

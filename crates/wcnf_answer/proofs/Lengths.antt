@@ -8,10 +8,10 @@ use lib.ListN.{length}
 use Rattle.masks.proofs.Choice.{lt-or-le}
 use Rattle.rules.specs.declared.WcnfRead.{WcnfRead}
 use Rattle.rules.specs.declared.Judged.the-variants.{Fine}
-use Rattle.rules.specs.Table.{rowWords, mostRows}
+use Rattle.rules.specs.Table.{rowWords}
 use Rattle.rules.specs.Walk.{mostBudget}
 use Rattle.rules.specs.WcnfReader.{wcnfWords, wcnfRead}
-use Rattle.rules.specs.Program.{mostInput}
+use Rattle.rules.specs.Program.{mostInput, mostInputRows}
 use Rattle.rules.specs.WcnfProgram.{wcnfOutcomeOf, wcnfAnswer, wcnfAnswerWhy}
 use Rattle.text_laws.proofs.LentBytes.{text-fine}
 use Rattle.readings.specs.Line.{Counted}
@@ -26,14 +26,14 @@ pub outcome-counted : (input : List ℕ) → Counted (wcnfOutcomeOf input)
 outcome-counted input =
     ⊎-elim
     (λ h. subst Counted (too-long input h) tt)
-    (λ short. by-text short (wcnfRead input (rowWords * mostRows)) refl)
+    (λ short. by-text short (wcnfRead mostInputRows input (rowWords * mostInputRows)) refl)
     (lt-or-le mostInput (length input))
   where
-    by-text : length input ≤ mostInput → (t : WcnfRead) → wcnfRead input (rowWords * mostRows) ≡ t → Counted (wcnfOutcomeOf input)
+    by-text : length input ≤ mostInput → (t : WcnfRead) → wcnfRead mostInputRows input (rowWords * mostInputRows) ≡ t → Counted (wcnfOutcomeOf input)
     by-text short (WcnfRead.Table n m) e =
-        subst Counted (read input short (rowWords * mostRows) n m (wcnfWords input) refl e refl)
-        (table-counted n mostBudget m (wcnfWords input) (read-fine input (rowWords * mostRows) n m e .variables))
-    by-text short (WcnfRead.Refused r) e = subst Counted (not-read input short (rowWords * mostRows) r refl e) tt
+        subst Counted (read input short (rowWords * mostInputRows) n m (wcnfWords input) refl e refl)
+        (table-counted n mostBudget m (wcnfWords input) (read-fine mostInputRows input (rowWords * mostInputRows) n m e .variables))
+    by-text short (WcnfRead.Refused r) e = subst Counted (not-read input short (rowWords * mostInputRows) r refl e) tt
 
 pub answer-length : (input : List ℕ) → length (wcnfAnswer input) ≤ mostAnswer
 unfolding wcnfAnswer

@@ -9,6 +9,7 @@ use rules::Outcome;
 use rules::Refusal;
 use rules::TextRead;
 use rules::WcnfRead;
+use wcnf_reader::inner::read_up_to;
 
 pub fn outcome_of(input: &[u8]) -> Outcome
     ensures { λ r. ⌜ r ≡ wcnfOutcomeOf (now (input .entry)) ⌝ }
@@ -17,7 +18,7 @@ pub fn outcome_of(input: &[u8]) -> Outcome
         return Outcome::Refused(Refusal::InputTooLong);
     }
     let mut words = [0u64; WORDS];
-    match wcnf_reader::read_wcnf(input, &mut words[Desk::HEAD..]) {
+    match read_up_to(TextRead::MOST_INPUT_ROWS, input, &mut words[Desk::HEAD..]) {
         WcnfRead::Refused(why) => Outcome::Refused(why),
         WcnfRead::Table { variables, rows } => search_read(variables, u32::MAX, rows, &mut words),
     }

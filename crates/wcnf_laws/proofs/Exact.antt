@@ -18,7 +18,7 @@ use Rattle.rules.specs.declared.Judged.{Judged}
 use Rattle.rules.specs.declared.Judged.the-variants.{Fine, Refused}
 use Rattle.rules.specs.Refusals.{refuse}
 use Rattle.literals.specs.Literal.{mostVariables}
-use Rattle.rules.specs.Table.{rowWords, mostRows}
+use Rattle.rules.specs.Table.{rowWords}
 use Rattle.rules.specs.WcnfReader.{badMembers, clausesWhy, wcnfReadWhy}
 use Rattle.text_laws.specs.Lines.{Line, ended, firstLines, NoFeed}
 use Rattle.text_laws.proofs.Cuts.{fewer-lines}
@@ -108,8 +108,9 @@ module _ (s : List ℕ) (cs : List (List ℕ)) (h : HeaderLine) (lines : List Cl
 -- ---- nothing else is said
 
 -- where the figures are refused, it is so whatever follows
-figures-refused : (room : ℕ) (h : HeaderLine) (r : Refusal) (after : Judged) → figuresFirst room h Fine ≡ Refused r → figuresFirst room h after ≡ Refused r
-figures-refused room h r after e = go (ltb mostVariables (h .variables)) (ltb mostRows (h .clauses)) (ltb room (rowWords * h .clauses)) e
+figures-refused : (most room : ℕ) (h : HeaderLine) (r : Refusal) (after : Judged) → figuresFirst most room h Fine ≡ Refused r
+    → figuresFirst most room h after ≡ Refused r
+figures-refused most room h r after e = go (ltb mostVariables (h .variables)) (ltb most (h .clauses)) (ltb room (rowWords * h .clauses)) e
   where
     go : (a b c : Bool) → refuse a TooManyVariables (refuse b BadTable (refuse c NoRoom Fine)) ≡ Refused r
         → refuse a TooManyVariables (refuse b BadTable (refuse c NoRoom after)) ≡ Refused r
@@ -120,8 +121,8 @@ figures-refused room h r after e = go (ltb mostVariables (h .variables)) (ltb mo
 
 -- ---- a clause without a fault, by its members and by the tests
 
-few-variables : (room : ℕ) (h : HeaderLine) → figuresFirst room h Fine ≡ Fine → h .variables ≤ mostVariables
-few-variables room h e = ltb-false mostVariables (h .variables) (refuse-fine (ltb mostVariables (h .variables)) TooManyVariables _ e .0)
+few-variables : (most room : ℕ) (h : HeaderLine) → figuresFirst most room h Fine ≡ Fine → h .variables ≤ mostVariables
+few-variables most room h e = ltb-false mostVariables (h .variables) (refuse-fine (ltb mostVariables (h .variables)) TooManyVariables _ e .0)
 
 not-bad : (h : HeaderLine) (c : ClauseLine) → (Above (h .variables) (numbersOf (c .literals)) → ⊥) → (BothWays (numbersOf (c .literals)) → ⊥)
     → badMembers (h .variables) (numbersOf (c .literals)) ≡ false
@@ -147,22 +148,22 @@ none-faulted h [] i each = refl
 none-faulted h (c ∷ cs) i each =
     rw (not-bad h c (each .0 .none-above) (each .0 .one-way), lt-leb (h .top) (c .weight) (each .0 .under-top)) (none-faulted h cs (suc i) (each .1))
 
-none-due : (room : ℕ) (h : HeaderLine) (lines : List ClauseLine) → NoneDue room h lines
-    → figuresFirst room h (faultsFirst 0 (h .variables) (h .top) (clausesSaid lines) Fine) ≡ Fine
-none-due room h lines n = ap (figuresFirst room h) (none-faulted h lines 0 (n .clauses)) ∙ n .figures
+none-due : (most room : ℕ) (h : HeaderLine) (lines : List ClauseLine) → NoneDue most room h lines
+    → figuresFirst most room h (faultsFirst 0 (h .variables) (h .top) (clausesSaid lines) Fine) ≡ Fine
+none-due most room h lines n = ap (figuresFirst most room h) (none-faulted h lines 0 (n .clauses)) ∙ n .figures
 
-module _ (s : List ℕ) (room : ℕ) (cs : List (List ℕ)) (h : HeaderLine) where
+module _ (s : List ℕ) (most room : ℕ) (cs : List (List ℕ)) (h : HeaderLine) where
   -- what is judged of the lines that it begins with, and then something
   in-turn : (lines : List ClauseLine) → Begins s cs h lines
-      → (after : Judged) × (wcnfReadWhy s room ≡ figuresFirst room h (faultsFirst 0 (h .variables) (h .top) (clausesSaid lines) after))
+      → (after : Judged) × (wcnfReadWhy most s room ≡ figuresFirst most room h (faultsFirst 0 (h .variables) (h .top) (clausesSaid lines) after))
   in-turn lines b =
       let w = begins-passed s cs h lines b in
       let t = turned (h .variables) (h .top) s lines (h .clauses) 0 (w .0 .next) (1 + length cs + 1) (b .each) (b .few) (w .1) in
-      (t .after, behind-header s room cs h (w .0) _ (t .why))
+      (t .after, behind-header s most room cs h (w .0) _ (t .why))
 
   -- the clause behind faultless ones
-  at-clause : (before : List ClauseLine) (c : ClauseLine) → Begins s cs h (before ++ (c ∷ [])) → NoneDue room h before
-      → (after : Judged) × (wcnfReadWhy s room
+  at-clause : (before : List ClauseLine) (c : ClauseLine) → Begins s cs h (before ++ (c ∷ [])) → NoneDue most room h before
+      → (after : Judged) × (wcnfReadWhy most s room
       ≡ refuse (badMembers (h .variables) (numbersOf (c .literals))) (BadLiterals (length before))
       (refuse (leb (h .top) (c .weight)) (WeightAtTop (length before)) after))
   at-clause before c b none =
@@ -170,8 +171,8 @@ module _ (s : List ℕ) (room : ℕ) (cs : List (List ℕ)) (h : HeaderLine) whe
       let here : 0 + length before ≡ length before = omega arith in (
         w .0,
         w .1
-            ∙ ap (figuresFirst room h) (faults-behind before c 0 (h .variables) (h .top) (w .0))
-            ∙ turn-free room h (clausesSaid before) Fine _ (none-due room h before none) .1
+            ∙ ap (figuresFirst most room h) (faults-behind before c 0 (h .variables) (h .top) (w .0))
+            ∙ turn-free most room h (clausesSaid before) Fine _ (none-due most room h before none) .1
             ∙ ap (λ (k : ℕ). refuse (badMembers (h .variables) (numbersOf (c .literals))) (BadLiterals k)
             (refuse (leb (h .top) (c .weight)) (WeightAtTop k) (w .0))) here,
       )
@@ -180,8 +181,8 @@ module _ (s : List ℕ) (room : ℕ) (cs : List (List ℕ)) (h : HeaderLine) whe
   made-up : List ClauseLine → List ClauseLine
   made-up before = before ++ blank (h .clauses - length before)
 
-  at-line : (before : List ClauseLine) → Begins s cs h before → NoneDue room h before → FirstBroken s (length cs + (length before + 2))
-      → wcnfReadWhy s room ≡ Refused (BadText (length cs + (length before + 2)))
+  at-line : (before : List ClauseLine) → Begins s cs h before → NoneDue most room h before → FirstBroken s (length cs + (length before + 2))
+      → wcnfReadWhy most s room ≡ Refused (BadText (length cs + (length before + 2)))
   unfolding made-up formText
   at-line before b none broken =
       let w = begins-passed s cs h before b in
@@ -200,20 +201,20 @@ module _ (s : List ℕ) (room : ℕ) (cs : List (List ℕ)) (h : HeaderLine) whe
       let alike : firstLines (length cs + (j + 1)) s ≡ firstLines (length cs + (j + 1)) (formText f) =
       passed-alike s cs h j (linesText lines) (w .0) (w .1 ∙ sym (front-lines before (blank rest))) in
       let taken : take j lines ≡ before = take-at before (blank rest) j refl in
-      cut-judged s room f held j alike broken
-      ∙ ap (λ (x : List ClauseLine). figuresFirst room h
+      cut-judged s most room f held j alike broken
+      ∙ ap (λ (x : List ClauseLine). figuresFirst most room h
       (faultsFirst 0 (h .variables) (h .top) (clausesSaid x) (Refused (BadText (length cs + (j + 2)))))) taken
-      ∙ turn-free room h (clausesSaid before) Fine _ (none-due room h before none) .1
+      ∙ turn-free most room h (clausesSaid before) Fine _ (none-due most room h before none) .1
 
-nothing-else : (s : List ℕ) (room : ℕ) (why : Judged) → Given s room why → wcnfReadWhy s room ≡ why
-nothing-else s room why (noHeader cs each alike b) = headless-judged s room cs each alike b
-nothing-else s room why (figures cs h b r e) = in-turn s room cs h [] b .1 ∙ figures-refused room h r _ e
-nothing-else s room why (noClause cs h before b none broken) = at-line s room cs h before b none broken
-nothing-else s room why (badClause cs h before c b none bad) =
-    at-clause s room cs h before c b none .1 ∙ rw (is-bad h c (few-variables room h (none .figures)) bad)
-nothing-else s room why (heavyClause cs h before c b none p q heavy) =
-    at-clause s room cs h before c b none .1 ∙ rw (not-bad h c p q, le-leb (h .top) (c .weight) heavy)
-nothing-else s room why (fine f held is none) = whole-judged s room f held is ∙ none-due room (f .header) (f .lines) none
+nothing-else : (s : List ℕ) (most room : ℕ) (why : Judged) → Given s most room why → wcnfReadWhy most s room ≡ why
+nothing-else s most room why (noHeader cs each alike b) = headless-judged s most room cs each alike b
+nothing-else s most room why (figures cs h b r e) = in-turn s most room cs h [] b .1 ∙ figures-refused most room h r _ e
+nothing-else s most room why (noClause cs h before b none broken) = at-line s most room cs h before b none broken
+nothing-else s most room why (badClause cs h before c b none bad) =
+    at-clause s most room cs h before c b none .1 ∙ rw (is-bad h c (few-variables most room h (none .figures)) bad)
+nothing-else s most room why (heavyClause cs h before c b none p q heavy) =
+    at-clause s most room cs h before c b none .1 ∙ rw (not-bad h c p q, le-leb (h .top) (c .weight) heavy)
+nothing-else s most room why (fine f held is none) = whole-judged s most room f held is ∙ none-due most room (f .header) (f .lines) none
 
 -- ---- and one of them is
 
@@ -250,40 +251,40 @@ begins-front s cs h front more b =
     passed-begins s cs h front (b .free) (b .header) (each-front front more (b .each)) (omega (arith, b .few)) (w .0)
     (fewer-lines (length front) (length (front ++ more)) (drop (w .0 .next) s) (linesText (front ++ more)) some all ∙ front-lines front more)
 
-abbrev Some : List ℕ → ℕ → Type 0
-Some s room = (why : Judged) × Given s room why
+abbrev Some : List ℕ → ℕ → ℕ → Type 0
+Some s most room = (why : Judged) × Given s most room why
 
-module _ (s : List ℕ) (room : ℕ) (cs : List (List ℕ)) (h : HeaderLine) (lines : List ClauseLine) (b : Begins s cs h lines)
-    (end : NoneDue room h lines → Some s room) where
-  by-fault : figuresFirst room h Fine ≡ Fine → FirstFault h lines → Some s room
+module _ (s : List ℕ) (most room : ℕ) (cs : List (List ℕ)) (h : HeaderLine) (lines : List ClauseLine) (b : Begins s cs h lines)
+    (end : NoneDue most room h lines → Some s most room) where
+  by-fault : figuresFirst most room h Fine ≡ Fine → FirstFault h lines → Some s most room
   by-fault free (faultless each) = end (record { figures = free; clauses = each })
   by-fault free (badly before c behind is each bad) =
       let front = begins-front s cs h (before ++ (c ∷ [])) behind (subst (Begins s cs h) is b) in
-      let none : NoneDue room h before = record { figures = free; clauses = each } in
+      let none : NoneDue most room h before = record { figures = free; clauses = each } in
       (Refused (BadLiterals (length before)), badClause cs h before c front none (bad-found (h .variables) (numbersOf (c .literals)) bad))
   by-fault free (heavily before c behind is each good heavy) =
       let front = begins-front s cs h (before ++ (c ∷ [])) behind (subst (Begins s cs h) is b) in
-      let none : NoneDue room h before = record { figures = free; clauses = each } in
-      let few = few-variables room h free in (
+      let none : NoneDue most room h before = record { figures = free; clauses = each } in
+      let few = few-variables most room h free in (
         Refused (WeightAtTop (length before)),
         heavyClause cs h before c front none (λ x. clash (is-bad h c few (inl x)) good) (λ x. clash (is-bad h c few (inr x)) good) heavy,
       )
 
-  by-figures : (j : Judged) → figuresFirst room h Fine ≡ j → Some s room
-  by-figures Fine e = by-fault e (first-fault h (few-variables room h e) lines)
+  by-figures : (j : Judged) → figuresFirst most room h Fine ≡ j → Some s most room
+  by-figures Fine e = by-fault e (first-fault h (few-variables most room h e) lines)
   by-figures (Refused r) e = (Refused r, figures cs h (begins-front s cs h [] lines b) r e)
 
-some-given : (s : List ℕ) (room : ℕ) → Shape s → Some s room
+some-given : (s : List ℕ) (most room : ℕ) → Shape s → Some s most room
 unfolding formText
-some-given s room (headless cs each alike broken) = (Refused (BadText (length cs + 1)), noHeader cs each alike broken)
-some-given s room (whole f held is) =
+some-given s most room (headless cs each alike broken) = (Refused (BadText (length cs + 1)), noHeader cs each alike broken)
+some-given s most room (whole f held is) =
     let cs = f .comments in
     let h = f .header in
     let w = whole-passed s f held is in
     let long : length (f .lines) ≤ h .clauses = omega (arith, held .whole) in
     let b = passed-begins s cs h (f .lines) (held .comments) (held .header) (held .lines) long (w .0) (w .1 (length (f .lines))) in
-    by-figures s room cs h (f .lines) b (λ none. (Fine, fine f held is none)) (figuresFirst room h Fine) refl
-some-given s room (cut f held j few alike broken) =
+    by-figures s most room cs h (f .lines) b (λ none. (Fine, fine f held is none)) (figuresFirst most room h Fine) refl
+some-given s most room (cut f held j few alike broken) =
     let cs = f .comments in
     let h = f .header in
     let front = take j (f .lines) in
@@ -297,18 +298,18 @@ some-given s room (cut f held j few alike broken) =
     let b =
     passed-begins s cs h front (held .comments) (held .header) (each-front front behind (subst (Each ClauseHeld) (sym all) (held .lines)))
     (omega (arith, held .whole)) (w .0) (same ∙ front-lines front behind) in
-    by-figures s room cs h front b
+    by-figures s most room cs h front b
     (λ none.
     let own = subst (λ (n : ℕ). FirstBroken s (length cs + (n + 2))) count broken in
     (Refused (BadText (length cs + (length front + 2))), noClause cs h front b none own))
-    (figuresFirst room h Fine) refl
+    (figuresFirst most room h Fine) refl
 
 pub exactly : Exactly wcnfReadWhy
 exactly =
     record {
-      given = λ s room.
-          let w = some-given s room (shape-of s) in
-          subst (Given s room) (sym (nothing-else s room (w .0) (w .1))) (w .1);
+      given = λ s most room.
+          let w = some-given s most room (shape-of s) in
+          subst (Given s most room) (sym (nothing-else s most room (w .0) (w .1))) (w .1);
       nothingElse = nothing-else;
       firstLine = first-line;
       endsEarly = ends-early;

@@ -16,7 +16,7 @@ use Rattle.rules.specs.declared.Parsed.{Parsed}
 use Rattle.rules.specs.declared.WcnfHead.{WcnfHead}
 use Rattle.rules.specs.declared.WcnfRead.{WcnfRead}
 use Rattle.rules.specs.Refusals.{_when_, asIn, firstDue}
-use Rattle.rules.specs.Table.{rowWords, mostRows, rowWordsOf, newRow}
+use Rattle.rules.specs.Table.{rowWords, rowWordsOf, newRow}
 use Rattle.rules.specs.Reader.{numberAt, onNumber}
 use Rattle.rules.specs.WcnfReader.{MembersRead, members, brokenLine, onMembers, membersFrom, litsOfMembers, badMembers, clausesWhy, clausesWords}
 use Rattle.rules.specs.WcnfReader.{headerOf, headerWhy, wcnfReadWhy, wcnfWords, wcnfReadAs, wcnfRead, wcnfTable}
@@ -57,52 +57,54 @@ clauses-count (suc m) i n top s at line e =
 
 -- ---- the figures
 
-pub record ReadFine (s : List ℕ) (room n m : ℕ) : Type 0 where
-  pub fine : wcnfReadWhy s room ≡ Fine
+pub record ReadFine (most : ℕ) (s : List ℕ) (room n m : ℕ) : Type 0 where
+  pub fine : wcnfReadWhy most s room ≡ Fine
   pub variables : n ≤ mostVariables
-  pub few : m ≤ mostRows
+  pub few : m ≤ most
   pub count : length (wcnfWords s) ≡ rowWords * m
 
 -- of a header whose file is fine
-header-fine : (s : List ℕ) (room n m top next line : ℕ) → headerOf s ≡ WcnfHead.Figures n m top next line
-    → headerWhy s room (WcnfHead.Figures n m top next line) ≡ Fine → ReadFine s room n m
+header-fine : (most : ℕ) (s : List ℕ) (room n m top next line : ℕ) → headerOf s ≡ WcnfHead.Figures n m top next line
+    → headerWhy most s room (WcnfHead.Figures n m top next line) ≡ Fine → ReadFine most s room n m
 unfolding wcnfReadWhy wcnfWords
-header-fine s room n m top next line h e =
+header-fine most s room n m top next line h e =
     let p1 = refuse-fine (ltb mostVariables n) TooManyVariables _ e in
-    let p2 = refuse-fine (ltb mostRows m) BadTable _ (p1 .1) in
+    let p2 = refuse-fine (ltb most m) BadTable _ (p1 .1) in
     let p3 = refuse-fine (ltb room (rowWords * m)) NoRoom _ (p2 .1) in
     record {
       fine = rw h e;
       variables = ltb-false mostVariables n (p1 .0);
-      few = ltb-false mostRows m (p2 .0);
+      few = ltb-false most m (p2 .0);
       count = rw h (clauses-count m 0 n top s next (line + 1) (p3 .1));
     }
 
-pub read-fine : (s : List ℕ) (room n m : ℕ) → wcnfRead s room ≡ WcnfRead.Table n m → ReadFine s room n m
+pub read-fine : (most : ℕ) (s : List ℕ) (room n m : ℕ) → wcnfRead most s room ≡ WcnfRead.Table n m → ReadFine most s room n m
 unfolding wcnfRead wcnfReadWhy
-read-fine s room n m h = go (headerOf s) refl
+read-fine most s room n m h = go (headerOf s) refl
   where
-    judged : (v k top next line : ℕ) (j : Judged) → headerWhy s room (WcnfHead.Figures v k top next line) ≡ j
+    judged : (v k top next line : ℕ) (j : Judged) → headerWhy most s room (WcnfHead.Figures v k top next line) ≡ j
         → wcnfReadAs j (WcnfHead.Figures v k top next line) ≡ WcnfRead.Table n m → headerOf s ≡ WcnfHead.Figures v k top next line
-        → ReadFine s room n m
+        → ReadFine most s room n m
     judged v k top next line Fine why q e =
         let vn : v ≡ n = cc in
         let km : k ≡ m = cc in
-        rw (← vn, ← km) (header-fine s room v k top next line e why)
+        rw (← vn, ← km) (header-fine most s room v k top next line e why)
     judged v k top next line (Refused r) why q e = impossible (cc)
 
-    go : (x : WcnfHead) → headerOf s ≡ x → ReadFine s room n m
+    go : (x : WcnfHead) → headerOf s ≡ x → ReadFine most s room n m
     go (WcnfHead.Figures v k top next line) e =
-        let h2 : wcnfReadAs (headerWhy s room (WcnfHead.Figures v k top next line)) (WcnfHead.Figures v k top next line) ≡ WcnfRead.Table n m = rw e at h in
-        judged v k top next line (headerWhy s room (WcnfHead.Figures v k top next line)) refl h2 e
+        let head = WcnfHead.Figures v k top next line in
+        let h2 : wcnfReadAs (headerWhy most s room head) head ≡ WcnfRead.Table n m = rw e at h in
+        judged v k top next line (headerWhy most s room (WcnfHead.Figures v k top next line)) refl h2 e
     go (WcnfHead.Broken bad) e =
         let h2 : WcnfRead.Refused (BadText bad) ≡ WcnfRead.Table n m = rw e at h in
         impossible (cc)
 
 -- the words of the rows stand at the front of the table
-pub front-words : (s table : List ℕ) (n m : ℕ) → wcnfRead s (length table) ≡ WcnfRead.Table n m → take (rowWords * m) (wcnfTable s table) ≡ wcnfWords s
+pub front-words : (most : ℕ) (s table : List ℕ) (n m : ℕ) → wcnfRead most s (length table) ≡ WcnfRead.Table n m
+    → take (rowWords * m) (wcnfTable most s table) ≡ wcnfWords s
 unfolding wcnfTable
-front-words s table n m h =
-    let read = read-fine s (length table) n m h in
-    rw (words-fine (wcnfReadWhy s (length table)) (wcnfWords s ++ drop (length (wcnfWords s)) table) table (read .fine))
+front-words most s table n m h =
+    let read = read-fine most s (length table) n m h in
+    rw (words-fine (wcnfReadWhy most s (length table)) (wcnfWords s ++ drop (length (wcnfWords s)) table) table (read .fine))
     (take-at (wcnfWords s) (drop (length (wcnfWords s)) table) (rowWords * m) (read .count))

@@ -87,13 +87,14 @@ module _ (s t : List ℕ) (same : SaysSame s t) where
       (words-of-clauses (same .clauses) s (same .next-here) ∙ clauses-same (same .same) ∙ sym (words-of-clauses (same .clauses) t (same .next-there)))
 
   -- where both are accepted, they are answered alike and leave the same words
-  pub same-answer : (room : ℕ) → wcnfReadWhy s room ≡ Fine → wcnfReadWhy t room ≡ Fine → wcnfRead s room ≡ wcnfRead t room
+  pub same-answer : (most room : ℕ) → wcnfReadWhy most s room ≡ Fine → wcnfReadWhy most t room ≡ Fine → wcnfRead most s room ≡ wcnfRead most t room
   unfolding wcnfRead
-  same-answer room p q = rw (p, q, same .here, same .there)
+  same-answer most room p q = rw (p, q, same .here, same .there)
 
-  pub same-table : (lent : List ℕ) → wcnfReadWhy s (length lent) ≡ Fine → wcnfReadWhy t (length lent) ≡ Fine → wcnfTable s lent ≡ wcnfTable t lent
+  pub same-table : (most : ℕ) (lent : List ℕ) → wcnfReadWhy most s (length lent) ≡ Fine → wcnfReadWhy most t (length lent) ≡ Fine
+      → wcnfTable most s lent ≡ wcnfTable most t lent
   unfolding wcnfTable
-  same-table lent p q =
-      words-fine (wcnfReadWhy s (length lent)) (wcnfWords s ++ drop (length (wcnfWords s)) lent) lent p
+  same-table most lent p q =
+      words-fine (wcnfReadWhy most s (length lent)) (wcnfWords s ++ drop (length (wcnfWords s)) lent) lent p
       ∙ ap (λ (words : List ℕ). words ++ drop (length words) lent) same-words
-      ∙ sym (words-fine (wcnfReadWhy t (length lent)) (wcnfWords t ++ drop (length (wcnfWords t)) lent) lent q)
+      ∙ sym (words-fine (wcnfReadWhy most t (length lent)) (wcnfWords t ++ drop (length (wcnfWords t)) lent) lent q)

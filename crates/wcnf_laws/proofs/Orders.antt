@@ -17,7 +17,7 @@ use Rattle.rules.specs.declared.Judged.{Judged}
 use Rattle.rules.specs.declared.Judged.the-variants.{Fine, Refused}
 use Rattle.rules.specs.Refusals.{refuse}
 use Rattle.rules.proofs.Judging.{refuse-fine}
-use Rattle.rules.specs.Table.{rowWords, mostRows}
+use Rattle.rules.specs.Table.{rowWords}
 use Rattle.rules.specs.Text.{lineFeed}
 use Rattle.rules.specs.Reader.{stands}
 use Rattle.rules.specs.WcnfReader.{badMembers, headerFrom, headerOf, clausesWhy, wcnfReadWhy}
@@ -137,10 +137,10 @@ unfolding headerOf
 headed s cs h p = p .reads (suc (length s)) 1 (omega (arith, p .few, p .inside))
 
 -- what is judged behind the header
-pub behind-header : (s : List ℕ) (room : ℕ) (cs : List (List ℕ)) (h : HeaderLine) → (p : Passed s 0 cs h) → (after : Judged)
-    → clausesWhy (h .clauses) 0 (h .variables) (h .top) s (p .next) (1 + length cs + 1) ≡ after → wcnfReadWhy s room ≡ figuresFirst room h after
+pub behind-header : (s : List ℕ) (most room : ℕ) (cs : List (List ℕ)) (h : HeaderLine) → (p : Passed s 0 cs h) → (after : Judged)
+    → clausesWhy (h .clauses) 0 (h .variables) (h .top) s (p .next) (1 + length cs + 1) ≡ after → wcnfReadWhy most s room ≡ figuresFirst most room h after
 unfolding wcnfReadWhy
-behind-header s room cs h p after e = rw (headed s cs h p) (ap (figuresFirst room h) e)
+behind-header s most room cs h p after e = rw (headed s cs h p) (ap (figuresFirst most room h) e)
 
 -- what is passed of it, and that the rest is alike to any line
 pub whole-passed : (s : List ℕ) (f : Form) → Held f → s ≡ formText f
@@ -152,14 +152,14 @@ whole-passed s f held is =
     let p = passed cs (f .header) s 0 rest (held .comments) (held .header) (ap (firstLines (under cs 1)) is) in
     (p, λ n. p .down n rest (ap (firstLines (under cs (suc n))) is))
 
-pub whole-judged : (s : List ℕ) (room : ℕ) (f : Form) → Held f → s ≡ formText f
-    → wcnfReadWhy s room ≡ figuresFirst room (f .header) (faultsFirst 0 (f .header .variables) (f .header .top) (clausesSaid (f .lines)) Fine)
-whole-judged s room f held is =
+pub whole-judged : (s : List ℕ) (most room : ℕ) (f : Form) → Held f → s ≡ formText f
+    → wcnfReadWhy most s room ≡ figuresFirst most room (f .header) (faultsFirst 0 (f .header .variables) (f .header .top) (clausesSaid (f .lines)) Fine)
+whole-judged s most room f held is =
     let cs = f .comments in
     let h = f .header in
     let w = whole-passed s f held is in
     let p = w .0 in
-    behind-header s room cs h p _
+    behind-header s most room cs h p _
     (ap (λ (m : ℕ). clausesWhy m 0 (h .variables) (h .top) s (p .next) (1 + length cs + 1)) (sym (held .whole))
     ∙ ends-judged (h .variables) (h .top) s (f .lines) 0 (p .next) (1 + length cs + 1) (held .lines) (p .inside) (w .1))
 
@@ -186,30 +186,30 @@ headless-reads (c ∷ cs) (suc k) s at line each alike b l far =
     (comment-back s at c next free a (under cs 1) b) (a .inside) (omega arith)
     ∙ ap WcnfHead.Broken (omega arith)
 
-pub headless-judged : (s : List ℕ) (room : ℕ) (cs : List (List ℕ)) → Each NoFeed cs
+pub headless-judged : (s : List ℕ) (most room : ℕ) (cs : List (List ℕ)) → Each NoFeed cs
     → firstLines (length cs) s ≡ firstLines (length cs) (underComments cs []) → FirstBroken s (length cs + 1)
-    → wcnfReadWhy s room ≡ Refused (BadText (length cs + 1))
+    → wcnfReadWhy most s room ≡ Refused (BadText (length cs + 1))
 unfolding wcnfReadWhy headerOf
-headless-judged s room cs each alike b =
+headless-judged s most room cs each alike b =
     let read = headless-reads cs (suc (length s)) s 0 1 each alike (subst (FirstBroken s) (sym (under-is cs 1)) b) (omega arith) (omega arith) in
     rw read (ap (λ (k : ℕ). Refused (BadText k)) (omega arith))
 
 -- ---- a header, and clauses up to a line that is none
 
-pub cut-judged : (s : List ℕ) (room : ℕ) (f : Form) → Held f → (j : ℕ)
+pub cut-judged : (s : List ℕ) (most room : ℕ) (f : Form) → Held f → (j : ℕ)
     → firstLines (length (f .comments) + (j + 1)) s ≡ firstLines (length (f .comments) + (j + 1)) (formText f)
     → FirstBroken s (length (f .comments) + (j + 2))
-    → wcnfReadWhy s room ≡ figuresFirst room (f .header)
+    → wcnfReadWhy most s room ≡ figuresFirst most room (f .header)
     (faultsFirst 0 (f .header .variables) (f .header .top) (clausesSaid (take j (f .lines))) (Refused (BadText (length (f .comments) + (j + 2)))))
 unfolding formText
-cut-judged s room f held j alike b =
+cut-judged s most room f held j alike b =
     let cs = f .comments in
     let h = f .header in
     let w = alike-passed s cs h j (linesText (f .lines)) (held .comments) (held .header) alike in
     let p = w .0 in
     let place : 1 + length cs + 1 + j ≡ length cs + (j + 2) = omega arith in
     let two : suc j + 1 ≡ j + 2 = omega arith in
-    behind-header s room cs h p _
+    behind-header s most room cs h p _
     (ap (λ (m : ℕ). clausesWhy m 0 (h .variables) (h .top) s (p .next) (1 + length cs + 1)) (sym (held .whole))
     ∙ breaks-judged (h .variables) (h .top) s j (f .lines) 0 (p .next) (1 + length cs + 1) (held .lines) (p .inside) (w .1)
     (λ other long each q.
@@ -223,16 +223,17 @@ cut-judged s room f held j alike b =
 
 -- ---- any text
 
-pub judged-by : (s : List ℕ) (room : ℕ) (x : Shape s) → wcnfReadWhy s room ≡ judgedBy x room
-judged-by s room (whole f held is) = whole-judged s room f held is
-judged-by s room (headless cs each alike b) = headless-judged s room cs each alike b
-judged-by s room (cut f held j few alike b) = cut-judged s room f held j alike b
+pub judged-by : (s : List ℕ) (most room : ℕ) (x : Shape s) → wcnfReadWhy most s room ≡ judgedBy x most room
+judged-by s most room (whole f held is) = whole-judged s most room f held is
+judged-by s most room (headless cs each alike b) = headless-judged s most room cs each alike b
+judged-by s most room (cut f held j few alike b) = cut-judged s most room f held j alike b
 
 -- ---- the line of a refusal 20
 
 -- a refusal 20 comes last: what is before it lets all pass
-figures-pass : (room : ℕ) (h : HeaderLine) (after other : Judged) (k : ℕ) → figuresFirst room h after ≡ Refused (BadText k) → figuresFirst room h other ≡ other
-figures-pass room h after other k e = go (ltb mostVariables (h .variables)) (ltb mostRows (h .clauses)) (ltb room (rowWords * h .clauses)) e
+figures-pass : (most room : ℕ) (h : HeaderLine) (after other : Judged) (k : ℕ) → figuresFirst most room h after ≡ Refused (BadText k)
+    → figuresFirst most room h other ≡ other
+figures-pass most room h after other k e = go (ltb mostVariables (h .variables)) (ltb most (h .clauses)) (ltb room (rowWords * h .clauses)) e
   where
     go : (a b c : Bool) → refuse a TooManyVariables (refuse b BadTable (refuse c NoRoom after)) ≡ Refused (BadText k)
         → refuse a TooManyVariables (refuse b BadTable (refuse c NoRoom other)) ≡ other
@@ -256,10 +257,11 @@ faults-pass (c ∷ cs) i variables top after other k e =
     go false false ih q = ih q
 
 -- and so it does where nothing is due
-figures-free : (room : ℕ) (h : HeaderLine) (after other : Judged) → figuresFirst room h after ≡ Fine → (after ≡ Fine) × (figuresFirst room h other ≡ other)
-figures-free room h after other e =
+figures-free : (most room : ℕ) (h : HeaderLine) (after other : Judged) → figuresFirst most room h after ≡ Fine
+    → (after ≡ Fine) × (figuresFirst most room h other ≡ other)
+figures-free most room h after other e =
     let p1 = refuse-fine (ltb mostVariables (h .variables)) TooManyVariables _ e in
-    let p2 = refuse-fine (ltb mostRows (h .clauses)) BadTable _ (p1 .1) in
+    let p2 = refuse-fine (ltb most (h .clauses)) BadTable _ (p1 .1) in
     let p3 = refuse-fine (ltb room (rowWords * h .clauses)) NoRoom _ (p2 .1) in
     (p3 .1, rw (p1 .0, p2 .0, p3 .0))
 
@@ -274,21 +276,21 @@ faults-free (c ∷ cs) i variables top after other e =
     (rest .0, rw (p1 .0, p2 .0) (rest .1))
 
 -- all that is due before the last, with the last behind it
-abbrev inTurn : ℕ → HeaderLine → List (ℕ × List ℤ) → Judged → Judged
-inTurn room h cs after = figuresFirst room h (faultsFirst 0 (h .variables) (h .top) cs after)
+abbrev inTurn : ℕ → ℕ → HeaderLine → List (ℕ × List ℤ) → Judged → Judged
+inTurn most room h cs after = figuresFirst most room h (faultsFirst 0 (h .variables) (h .top) cs after)
 
-turn-pass : (room : ℕ) (h : HeaderLine) (cs : List (ℕ × List ℤ)) (after other : Judged) (k : ℕ) → inTurn room h cs after ≡ Refused (BadText k)
-    → (after ≡ Refused (BadText k)) × (inTurn room h cs other ≡ other)
-turn-pass room h cs after other k e =
-    let inner = sym (figures-pass room h _ (faultsFirst 0 (h .variables) (h .top) cs after) k e) ∙ e in (
+turn-pass : (most room : ℕ) (h : HeaderLine) (cs : List (ℕ × List ℤ)) (after other : Judged) (k : ℕ) → inTurn most room h cs after ≡ Refused (BadText k)
+    → (after ≡ Refused (BadText k)) × (inTurn most room h cs other ≡ other)
+turn-pass most room h cs after other k e =
+    let inner = sym (figures-pass most room h _ (faultsFirst 0 (h .variables) (h .top) cs after) k e) ∙ e in (
       sym (faults-pass cs 0 (h .variables) (h .top) after after k inner) ∙ inner,
-      figures-pass room h _ (faultsFirst 0 (h .variables) (h .top) cs other) k e ∙ faults-pass cs 0 (h .variables) (h .top) after other k inner,
+      figures-pass most room h _ (faultsFirst 0 (h .variables) (h .top) cs other) k e ∙ faults-pass cs 0 (h .variables) (h .top) after other k inner,
     )
 
-pub turn-free : (room : ℕ) (h : HeaderLine) (cs : List (ℕ × List ℤ)) (after other : Judged) → inTurn room h cs after ≡ Fine
-    → (after ≡ Fine) × (inTurn room h cs other ≡ other)
-turn-free room h cs after other e =
-    let outer = figures-free room h _ (faultsFirst 0 (h .variables) (h .top) cs other) e in
+pub turn-free : (most room : ℕ) (h : HeaderLine) (cs : List (ℕ × List ℤ)) (after other : Judged) → inTurn most room h cs after ≡ Fine
+    → (after ≡ Fine) × (inTurn most room h cs other ≡ other)
+turn-free most room h cs after other e =
+    let outer = figures-free most room h _ (faultsFirst 0 (h .variables) (h .top) cs other) e in
     let inner = faults-free cs 0 (h .variables) (h .top) after other (outer .0) in
     (inner .0, outer .1 ∙ inner .1)
 
@@ -306,29 +308,29 @@ same-place : (a k : ℕ) → Refused (BadText a) ≡ Refused (BadText k) → a �
 same-place a k e = cc
 
 -- a refusal 20 is given with the first line that breaks the form, where nothing else is due before
-module _ (s : List ℕ) (room k : ℕ) where
-  by-shape : (x : Shape s) → judgedBy x room ≡ Refused (BadText k) → FirstBroken s k × (dueBefore x room ≡ Fine)
+module _ (s : List ℕ) (most room k : ℕ) where
+  by-shape : (x : Shape s) → judgedBy x most room ≡ Refused (BadText k) → FirstBroken s k × (dueBefore x most room ≡ Fine)
   by-shape (whole f held is) q =
-      let z = turn-pass room (f .header) (clausesSaid (f .lines)) Fine Fine k q .0 in
+      let z = turn-pass most room (f .header) (clausesSaid (f .lines)) Fine Fine k q .0 in
       impossible (cc)
   by-shape (headless cs each alike b) q = (subst (FirstBroken s) (same-place (length cs + 1) k q) b, refl)
   by-shape (cut f held j few alike b) q =
       let place = length (f .comments) + (j + 2) in
-      let z = turn-pass room (f .header) (clausesSaid (take j (f .lines))) (Refused (BadText place)) Fine k q in
+      let z = turn-pass most room (f .header) (clausesSaid (take j (f .lines))) (Refused (BadText place)) Fine k q in
       (subst (FirstBroken s) (same-place place k (z .0)) b, z .1)
 
-  pub first-line : wcnfReadWhy s room ≡ Refused (BadText k) → FirstBroken s k
-  first-line e = by-shape (shape-of s) (sym (judged-by s room (shape-of s)) ∙ e) .0
+  pub first-line : wcnfReadWhy most s room ≡ Refused (BadText k) → FirstBroken s k
+  first-line e = by-shape (shape-of s) (sym (judged-by s most room (shape-of s)) ∙ e) .0
 
-  pub line-due : (x : Shape s) → wcnfReadWhy s room ≡ Refused (BadText k) → dueBefore x room ≡ Fine
-  line-due x e = by-shape x (sym (judged-by s room x) ∙ e) .1
+  pub line-due : (x : Shape s) → wcnfReadWhy most s room ≡ Refused (BadText k) → dueBefore x most room ≡ Fine
+  line-due x e = by-shape x (sym (judged-by s most room x) ∙ e) .1
 
-  pub line-given : (x : Shape s) → FirstBroken s k → dueBefore x room ≡ Fine → wcnfReadWhy s room ≡ Refused (BadText k)
+  pub line-given : (x : Shape s) → FirstBroken s k → dueBefore x most room ≡ Fine → wcnfReadWhy most s room ≡ Refused (BadText k)
   line-given (whole f held is) b e = absurd (unbroken s f held is k b)
   line-given (headless cs each alike own) b e =
-      headless-judged s room cs each alike own ∙ ap (λ (n : ℕ). Refused (BadText n)) (one-place s (length cs + 1) k own b)
+      headless-judged s most room cs each alike own ∙ ap (λ (n : ℕ). Refused (BadText n)) (one-place s (length cs + 1) k own b)
   line-given (cut f held j few alike own) b e =
       let place = length (f .comments) + (j + 2) in
-      cut-judged s room f held j alike own
-      ∙ turn-free room (f .header) (clausesSaid (take j (f .lines))) Fine (Refused (BadText place)) e .1
+      cut-judged s most room f held j alike own
+      ∙ turn-free most room (f .header) (clausesSaid (take j (f .lines))) Fine (Refused (BadText place)) e .1
       ∙ ap (λ (n : ℕ). Refused (BadText n)) (one-place s place k own b)

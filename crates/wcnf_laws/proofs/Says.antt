@@ -149,13 +149,13 @@ faults-same i variables top after (next w ls ms same rest) =
 
 -- where top is the same too, one is accepted where the other is, and refused as the other is
 pub same-judged : (f g : Form) → Held f → Held g → DifferOnly f g → f .header .top ≡ g .header .top
-    → (room : ℕ) → wcnfReadWhy (formText f) room ≡ wcnfReadWhy (formText g) room
-same-judged f g p q only top room =
+    → (most room : ℕ) → wcnfReadWhy most (formText f) room ≡ wcnfReadWhy most (formText g) room
+same-judged f g p q only top most room =
     let count = as-many f g p q only in
-    whole-judged (formText f) room f p refl
+    whole-judged (formText f) most room f p refl
     ∙ rw (only .variables, count, top)
-    (ap (figuresFirst room (g .header)) (faults-same 0 (g .header .variables) (g .header .top) Fine (only .clauses)))
-    ∙ sym (whole-judged (formText g) room g q refl)
+    (ap (figuresFirst most room (g .header)) (faults-same 0 (g .header .variables) (g .header .top) Fine (only .clauses)))
+    ∙ sym (whole-judged (formText g) most room g q refl)
 
 -- ---- an accepted text is of the form
 
@@ -164,14 +164,14 @@ pub record Accepted (s : List ℕ) : Type 0 where
   pub held : Held form
   pub text : s ≡ formText form
 
-pub accepted-form : (s : List ℕ) (room : ℕ) → wcnfReadWhy s room ≡ Fine → Accepted s
-accepted-form s room e = go (shape-of s) (sym (judged-by s room (shape-of s)) ∙ e)
+pub accepted-form : (s : List ℕ) (most room : ℕ) → wcnfReadWhy most s room ≡ Fine → Accepted s
+accepted-form s most room e = go (shape-of s) (sym (judged-by s most room (shape-of s)) ∙ e)
   where
-    go : (x : Shape s) → judgedBy x room ≡ Fine → Accepted s
+    go : (x : Shape s) → judgedBy x most room ≡ Fine → Accepted s
     go (whole f held is) q = record { form = f; held = held; text = is }
     go (headless cs each alike b) q = impossible (cc)
     go (cut f held j few alike b) q =
         let said = clausesSaid (take j (f .lines)) in
         let last : Judged = Refused (BadText (length (f .comments) + (j + 2))) in
-        let z : last ≡ Fine = turn-free room (f .header) said last last q .0 in
+        let z : last ≡ Fine = turn-free most room (f .header) said last last q .0 in
         impossible (cc)

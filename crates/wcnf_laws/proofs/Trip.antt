@@ -260,10 +260,10 @@ module _ (n : ℕ) (table : List ℕ) (ok : tableWhy n table ≡ Fine) where
         whole = lines-long (rowCount table) 0 table;
       }
 
-  judged : (room : ℕ) → wcnfReadWhy text room ≡ figuresFirst room (headerOfTable n table) Fine
+  judged : (room : ℕ) → wcnfReadWhy mostRows text room ≡ figuresFirst mostRows room (headerOfTable n table) Fine
   judged room =
-      whole-judged text room f written-held (written-form n table)
-      ∙ ap (figuresFirst room (headerOfTable n table)) (none-faulted n (topOf table) table (rowCount table) 0 0 all-faultless)
+      whole-judged text mostRows room f written-held (written-form n table)
+      ∙ ap (figuresFirst mostRows room (headerOfTable n table)) (none-faulted n (topOf table) table (rowCount table) 0 0 all-faultless)
 
   all-words : wcnfWords text ≡ table
   all-words =
@@ -271,7 +271,7 @@ module _ (n : ℕ) (table : List ℕ) (ok : tableWhy n table ≡ Fine) where
       ∙ said-words n (topOf table) table (rowCount table) 0 all-faultless
       ∙ words-all (rowCount table) table (fine .whole)
 
-  why-fine : (room : ℕ) → length table ≤ room → wcnfReadWhy text room ≡ Fine
+  why-fine : (room : ℕ) → length table ≤ room → wcnfReadWhy mostRows text room ≡ Fine
   why-fine room h =
       judged room
       ∙ rw (
@@ -280,7 +280,7 @@ module _ (n : ℕ) (table : List ℕ) (ok : tableWhy n table ≡ Fine) where
         le-ltb room (rowWords * rowCount table) (omega (arith, fine .whole)),
       )
 
-  why-tight : (room : ℕ) → room < length table → wcnfReadWhy text room ≡ Refused NoRoom
+  why-tight : (room : ℕ) → room < length table → wcnfReadWhy mostRows text room ≡ Refused NoRoom
   why-tight room h =
       judged room
       ∙ rw (
@@ -289,14 +289,14 @@ module _ (n : ℕ) (table : List ℕ) (ok : tableWhy n table ≡ Fine) where
         lt-ltb room (rowWords * rowCount table) (omega (arith, fine .whole)),
       )
 
-  answered : (room : ℕ) → length table ≤ room → wcnfRead text room ≡ WcnfRead.Table n (rowCount table)
+  answered : (room : ℕ) → length table ≤ room → wcnfRead mostRows text room ≡ WcnfRead.Table n (rowCount table)
   unfolding wcnfRead
   answered room h = rw (why-fine room h, figured text f written-held (written-form n table) .header)
 
-  lent-words : (found : List ℕ) → length table ≤ length found → wcnfTable text found ≡ table ++ drop (length table) found
+  lent-words : (found : List ℕ) → length table ≤ length found → wcnfTable mostRows text found ≡ table ++ drop (length table) found
   unfolding wcnfTable
   lent-words found h =
-      words-fine (wcnfReadWhy text (length found)) (wcnfWords text ++ drop (length (wcnfWords text)) found) found (why-fine (length found) h)
+      words-fine (wcnfReadWhy mostRows text (length found)) (wcnfWords text ++ drop (length (wcnfWords text)) found) found (why-fine (length found) h)
       ∙ ap (λ (words : List ℕ). words ++ drop (length words) found) all-words
 
   pub read-back : ReadBack n table
@@ -324,6 +324,6 @@ returns n table out e =
     record {
       count = length text;
       written = text-written (tableWhy n table) text out e .0;
-      answer = λ room h. ap (λ (s : List ℕ). wcnfRead s room) front ∙ back .answer room h;
-      lent = λ found h. ap (λ (s : List ℕ). wcnfTable s found) front ∙ back .lent found h;
+      answer = λ room h. ap (λ (s : List ℕ). wcnfRead mostRows s room) front ∙ back .answer room h;
+      lent = λ found h. ap (λ (s : List ℕ). wcnfTable mostRows s found) front ∙ back .lent found h;
     }

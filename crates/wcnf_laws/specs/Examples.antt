@@ -3,6 +3,7 @@ use Prim.Native.Nat.{ℕ}
 use Prim.Native.String.{String}
 use mathlib.Core.Bool.{true, false}
 use mathlib.Core.List.{List, [], _∷_, _++_}
+use Rattle.rules.specs.Table.{mostRows}
 use Rattle.rules.specs.Walk.{walked, foundBy}
 use Rattle.rules.specs.Text.{bytes}
 use Rattle.rules.specs.Wcnf.{wcnfText}
@@ -12,7 +13,7 @@ use Rattle.rules.specs.Examples.{Example, example, x, not-x, row, refusal, p8}
 
 -- what the reader answers, given room
 abbrev wcnf : String → List ℕ
-wcnf text = refusal (wcnfReadWhy (bytes text) 10000)
+wcnf text = refusal (wcnfReadWhy mostRows (bytes text) 10000)
 
 abbrev pub examples : List Example
 examples =
@@ -25,9 +26,12 @@ examples =
     ∷ example "no header; a comment unended; a space in front; nothing"
     (wcnf "c\n1 0\n" ++ (wcnf "c" ++ (wcnf " p wcnf 0 0 1\n" ++ wcnf "")))
     (20 ∷ 2 ∷ 20 ∷ 1 ∷ 20 ∷ 1 ∷ 20 ∷ 1 ∷ [])
-    ∷ example "65 variables, 513 clauses, no room"
-    (wcnf "p wcnf 65 513 1\n" ++ (wcnf "p wcnf 64 513 1\n" ++ refusal (wcnfReadWhy (bytes "p wcnf 1 1 9\n") 2)))
-    (1 ∷ 0 ∷ 2 ∷ 0 ∷ 4 ∷ 0 ∷ [])
+    ∷ example "65 variables, 2,049 clauses, 2,048 of which the first is missing, no room"
+    (wcnf "p wcnf 65 2049 1\n" ++ (wcnf "p wcnf 64 2049 1\n" ++ (wcnf "p wcnf 64 2048 1\n" ++ refusal (wcnfReadWhy mostRows (bytes "p wcnf 1 1 9\n") 2))))
+    (1 ∷ 0 ∷ 2 ∷ 0 ∷ 20 ∷ 2 ∷ 4 ∷ 0 ∷ [])
+    ∷ example "513 clauses, and 512 of which the first is missing, for the program"
+    (wcnfAnswer (bytes "p wcnf 64 513 1\n") ++ wcnfAnswer (bytes "p wcnf 64 512 1\n"))
+    (bytes "c refused: number 2, place 0\ns UNKNOWN\nc refused: number 20, place 2\ns UNKNOWN\n")
     ∷ example "a comment behind the header; 11 digits; -0; 01; +1; a space at the end; behind the closing 0; unended"
     (wcnf "p wcnf 1 1 9\nc\n1 0\n" ++ (wcnf "p wcnf 1 1 9\n1 10000000000 0\n" ++ (wcnf "p wcnf 1 1 9\n1 -0\n" ++ (wcnf "p wcnf 1 1 9\n1 01 0\n"
     ++ (wcnf "p wcnf 1 1 9\n1 +1 0\n" ++ (wcnf "p wcnf 1 1 9\n1 0 \n" ++ (wcnf "p wcnf 1 1 9\n1 0 1\n" ++ wcnf "p wcnf 1 1 9\n1 0")))))))

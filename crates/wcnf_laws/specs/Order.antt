@@ -32,16 +32,16 @@ pub data Shape (s : List ℕ) : Type 0 where
       → firstLines (length (f .comments) + (j + 1)) s ≡ firstLines (length (f .comments) + (j + 1)) (formText f)
       → FirstBroken s (length (f .comments) + (j + 2)) → Shape s
 
-abbrev pub judgedBy : {s : List ℕ} → Shape s → ℕ → Judged
-judgedBy (whole f held is) room = figuresFirst room (f .header) (faultsFirst 0 (f .header .variables) (f .header .top) (clausesSaid (f .lines)) Fine)
-judgedBy (headless comments free alike broken) room = Refused (BadText (length comments + 1))
-judgedBy (cut f held j few alike broken) room =
-    figuresFirst room (f .header)
+abbrev pub judgedBy : {s : List ℕ} → Shape s → ℕ → ℕ → Judged
+judgedBy (whole f held is) most room = figuresFirst most room (f .header) (faultsFirst 0 (f .header .variables) (f .header .top) (clausesSaid (f .lines)) Fine)
+judgedBy (headless comments free alike broken) most room = Refused (BadText (length comments + 1))
+judgedBy (cut f held j few alike broken) most room =
+    figuresFirst most room (f .header)
     (faultsFirst 0 (f .header .variables) (f .header .top) (clausesSaid (take j (f .lines))) (Refused (BadText (length (f .comments) + (j + 2)))))
 
 -- what is given before the line that breaks the form is judged
-abbrev pub dueBefore : {s : List ℕ} → Shape s → ℕ → Judged
-dueBefore (whole f held is) room = figuresFirst room (f .header) (faultsFirst 0 (f .header .variables) (f .header .top) (clausesSaid (f .lines)) Fine)
-dueBefore (headless comments free alike broken) room = Fine
-dueBefore (cut f held j few alike broken) room =
-    figuresFirst room (f .header) (faultsFirst 0 (f .header .variables) (f .header .top) (clausesSaid (take j (f .lines))) Fine)
+abbrev pub dueBefore : {s : List ℕ} → Shape s → ℕ → ℕ → Judged
+dueBefore (whole f held is) most room = figuresFirst most room (f .header) (faultsFirst 0 (f .header .variables) (f .header .top) (clausesSaid (f .lines)) Fine)
+dueBefore (headless comments free alike broken) most room = Fine
+dueBefore (cut f held j few alike broken) most room =
+    figuresFirst most room (f .header) (faultsFirst 0 (f .header .variables) (f .header .top) (clausesSaid (take j (f .lines))) Fine)

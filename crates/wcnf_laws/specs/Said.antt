@@ -31,5 +31,6 @@ pub record SaysSame (s t : List ℕ) : Type 0 where
 -- where both are accepted, they are answered alike and leave the same words
 pub record SameRead (s t : List ℕ) : Type 0 where
   pub words : wcnfWords s ≡ wcnfWords t
-  pub answer : (room : ℕ) → wcnfReadWhy s room ≡ Fine → wcnfReadWhy t room ≡ Fine → wcnfRead s room ≡ wcnfRead t room
-  pub table : (lent : List ℕ) → wcnfReadWhy s (length lent) ≡ Fine → wcnfReadWhy t (length lent) ≡ Fine → wcnfTable s lent ≡ wcnfTable t lent
+  pub answer : (most room : ℕ) → wcnfReadWhy most s room ≡ Fine → wcnfReadWhy most t room ≡ Fine → wcnfRead most s room ≡ wcnfRead most t room
+  pub table : (most : ℕ) (lent : List ℕ) → wcnfReadWhy most s (length lent) ≡ Fine → wcnfReadWhy most t (length lent) ≡ Fine
+      → wcnfTable most s lent ≡ wcnfTable most t lent

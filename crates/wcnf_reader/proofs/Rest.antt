@@ -16,7 +16,7 @@ use Rattle.rules.specs.declared.Judged.{Judged}
 use Rattle.rules.specs.declared.Judged.the-variants.{Fine, Refused}
 use Rattle.rules.specs.declared.WcnfHead.{WcnfHead}
 use Rattle.rules.specs.declared.WcnfRead.{WcnfRead}
-use Rattle.rules.specs.Table.{rowWords, mostRows}
+use Rattle.rules.specs.Table.{rowWords}
 use Rattle.rules.specs.WcnfReader.{headerOf, clausesWhy, headerWhy, wcnfReadWhy, clausesWords, wcnfWords, wcnfRead, wcnfTable}
 use Rattle.rules.proofs.Judging.{refuse-fine}
 use Rattle.text_laws.proofs.Matched.{matched}
@@ -26,27 +26,27 @@ use Rattle.wcnf_reader.proofs.Turns.{words-length}
 
 -- ---- the header's figures, in order
 
-module _ (s : List ℕ) (room n m top next line : ℕ) where
+module _ (most : ℕ) (s : List ℕ) (room n m top next line : ℕ) where
   abbrev why : Judged
-  why = headerWhy s room (WcnfHead.Figures n m top next line)
+  why = headerWhy most s room (WcnfHead.Figures n m top next line)
 
   pub over-variables : mostVariables < n → why ≡ Refused TooManyVariables
   over-variables h = rw (lt-ltb mostVariables n h)
 
-  pub over-rows : n ≤ mostVariables → mostRows < m → why ≡ Refused BadTable
-  over-rows g h = rw (le-ltb mostVariables n g, lt-ltb mostRows m h)
+  pub over-rows : n ≤ mostVariables → most < m → why ≡ Refused BadTable
+  over-rows g h = rw (le-ltb mostVariables n g, lt-ltb most m h)
 
-  pub over-room : n ≤ mostVariables → m ≤ mostRows → room < rowWords * m → why ≡ Refused NoRoom
-  over-room g h i = rw (le-ltb mostVariables n g, le-ltb mostRows m h, lt-ltb room (rowWords * m) i)
+  pub over-room : n ≤ mostVariables → m ≤ most → room < rowWords * m → why ≡ Refused NoRoom
+  over-room g h i = rw (le-ltb mostVariables n g, le-ltb most m h, lt-ltb room (rowWords * m) i)
 
-  pub by-clauses : (j : Judged) → n ≤ mostVariables → m ≤ mostRows → rowWords * m ≤ room → j ≡ clausesWhy m 0 n top s next (line + 1) → j ≡ why
-  by-clauses j g h i e = rw (le-ltb mostVariables n g, le-ltb mostRows m h, le-ltb room (rowWords * m) i) e
+  pub by-clauses : (j : Judged) → n ≤ mostVariables → m ≤ most → rowWords * m ≤ room → j ≡ clausesWhy m 0 n top s next (line + 1) → j ≡ why
+  by-clauses j g h i e = rw (le-ltb mostVariables n g, le-ltb most m h, le-ltb room (rowWords * m) i) e
 
   -- where all is fine there is room
   fits : why ≡ Fine → rowWords * m ≤ room
   fits e =
       let p1 = refuse-fine (ltb mostVariables n) TooManyVariables _ e in
-      let p2 = refuse-fine (ltb mostRows m) BadTable _ (p1 .1) in
+      let p2 = refuse-fine (ltb most m) BadTable _ (p1 .1) in
       let p3 = refuse-fine (ltb room (rowWords * m)) NoRoom _ (p2 .1) in
       ltb-false room (rowWords * m) (p3 .0)
 
@@ -57,12 +57,13 @@ head-line s n m top next line e = omega (arith, line-small (suc (length s)) s 0 
 
 -- ---- behind the header
 
-module _ (s table : List ℕ) (n m top next line : ℕ) (j : Judged) (why-is : j ≡ headerWhy s (length table) (WcnfHead.Figures n m top next line)) where
+module _ (most : ℕ) (s table : List ℕ) (n m top next line : ℕ) (j : Judged)
+    (why-is : j ≡ headerWhy most s (length table) (WcnfHead.Figures n m top next line)) where
   abbrev answer : WcnfRead
-  answer = readBehind s (length table) n m top next line
+  answer = readBehind most s (length table) n m top next line
 
   abbrev words : List ℕ
-  words = storedBehind s table n m top next line
+  words = storedBehind most s table n m top next line
 
   pub behind-refused : (r : Refusal) → j ≡ Refused r → (WcnfRead.Refused r ≡ answer) × (table ≡ words)
   unfolding readBehind storedBehind
@@ -74,32 +75,32 @@ module _ (s table : List ℕ) (n m top next line : ℕ) (j : Judged) (why-is : j
 
   -- what storing the rows expects
   pub behind-room : j ≡ Fine → rowWords * m ≤ length table
-  behind-room e = fits s (length table) n m top next line (matched why-is e)
+  behind-room e = fits most s (length table) n m top next line (matched why-is e)
 
 -- ---- the whole text
 
-module _ (s table : List ℕ) where
+module _ (most : ℕ) (s table : List ℕ) where
   pub read-broken : (line : ℕ) → headerOf s ≡ WcnfHead.Broken line
-      → (WcnfRead.Refused (BadText line) ≡ wcnfRead s (length table)) × (table ≡ wcnfTable s table)
+      → (WcnfRead.Refused (BadText line) ≡ wcnfRead most s (length table)) × (table ≡ wcnfTable most s table)
   unfolding wcnfRead wcnfTable wcnfReadWhy
   read-broken line e = (rw e, rw e)
 
   module _ (n m top next line : ℕ) (h : headerOf s ≡ WcnfHead.Figures n m top next line) where
-    answer-is : readBehind s (length table) n m top next line ≡ wcnfRead s (length table)
+    answer-is : readBehind most s (length table) n m top next line ≡ wcnfRead most s (length table)
     unfolding readBehind wcnfRead wcnfReadWhy
     answer-is = rw h
 
-    words-are : (j : Judged) → headerWhy s (length table) (WcnfHead.Figures n m top next line) ≡ j
-        → storedBehind s table n m top next line ≡ wcnfTable s table
+    words-are : (j : Judged) → headerWhy most s (length table) (WcnfHead.Figures n m top next line) ≡ j
+        → storedBehind most s table n m top next line ≡ wcnfTable most s table
     unfolding storedBehind wcnfTable wcnfReadWhy wcnfWords
     words-are Fine e =
         let words = clausesWords m s next in
-        let room : 0 + length words ≤ length table = omega (arith, words-length m s next, fits s (length table) n m top next line e) in
+        let room : 0 + length words ≤ length table = omega (arith, words-length m s next, fits most s (length table) n m top next line e) in
         rw (h, e) (sets-eq words table 0 room ∙ rw (zero-add (length words)))
     words-are (Refused r) e = rw (h, e)
 
     pub behind-read : (answer : WcnfRead) (after : List ℕ)
-        → (answer ≡ readBehind s (length table) n m top next line) × (after ≡ storedBehind s table n m top next line)
-        → (answer ≡ wcnfRead s (length table)) × (after ≡ wcnfTable s table)
+        → (answer ≡ readBehind most s (length table) n m top next line) × (after ≡ storedBehind most s table n m top next line)
+        → (answer ≡ wcnfRead most s (length table)) × (after ≡ wcnfTable most s table)
     behind-read answer after rest =
-        (rest .0 ∙ answer-is, rest .1 ∙ words-are (headerWhy s (length table) (WcnfHead.Figures n m top next line)) refl)
+        (rest .0 ∙ answer-is, rest .1 ∙ words-are (headerWhy most s (length table) (WcnfHead.Figures n m top next line)) refl)

@@ -50,6 +50,7 @@ fn clauses_why(s: &[u8], from: usize, clauses: u64, variables: u64, top: u64, fi
 
 // In the reader's order: 1, 2, 4, the clauses, which begin on the line behind the header's.
 pub fn figures_why(
+    most: usize,
     s: &[u8],
     room: usize,
     variables: u64,
@@ -58,14 +59,14 @@ pub fn figures_why(
     from: usize,
     line: u64,
 ) -> Judged
-    requires { ⌜ line ≤ length (now s) + 1 ⌝ }
-    ensures { λ r. ⌜ r ≡ headerWhy (now (s .entry)) room (WcnfHead.Figures variables clauses top from line) ⌝ }
+    requires { ⌜ (most ≤ mostRows) × (line ≤ length (now s) + 1) ⌝ }
+    ensures { λ r. ⌜ r ≡ headerWhy most (now (s .entry)) room (WcnfHead.Figures variables clauses top from line) ⌝ }
 {
     if variables > Literal::MOST {
         return Judged::Refused(Refusal::TooManyVariables);
     }
     let count = clauses as usize;
-    if count > Row::MOST {
+    if count > most {
         return Judged::Refused(Refusal::BadTable);
     }
     if room < Row::WORDS * count {

@@ -2,6 +2,7 @@
 use mathlib.Core.Path.{sym, ap, _∙_}
 use Rattle.telling.proofs.Places.{as-small, read-small}
 use Rattle.telling.specs.Told.{told, byTextRead, headOut}
+use native.Mathlib.Omega.{arith}
 use borrow.Author.Needs.{needs}
 use Rattle.c_texts.proofs.olikumpasho_read.Statement.{statement}
 use Rattle.c_texts.proofs.olikumpasho_read.Tie as tie
@@ -14,7 +15,7 @@ enum-known-r c = search needs
 
 tell-requires : tie.Need-tell-requires
 tell-requires c κs =
-    as-small (sym (ap byTextRead (sym (c .before .before .before .before .before .read .ensures .0) ∙ c .before .r .given .1))) (read-small _ _)
+    as-small (sym (ap byTextRead (sym (c .before .before .before .before .before .read .ensures .0) ∙ c .before .r .given .1))) (read-small _ _ _ (omega arith))
 
 enum-known-variables : tie.Need-enum-known-variables
 enum-known-variables c = search needs

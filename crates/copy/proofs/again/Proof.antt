@@ -26,9 +26,10 @@ enum-known-variables c = search needs
 
 -- at the figures that were read
 fine : (c : tie.After-known-told)
-    → ReadFine (c .before .before .before .before .before .before .before .before .args .input .now) (rowWords * mostRows) (c .before .variables .given .0 .0)
+    → ReadFine mostRows (c .before .before .before .before .before .before .before .before .args .input .now) (rowWords * mostRows)
+    (c .before .variables .given .0 .0)
     (c .before .variables .given .0 .1 .0) (c .before .variables .given .0 .1 .1 .0)
-fine c = read-fine _ _ _ _ _ (sym (c .before .before .before .before .read .ensures .0) ∙ c .before .variables .given .1)
+fine c = read-fine _ _ _ _ _ _ (sym (c .before .before .before .before .read .ensures .0) ∙ c .before .variables .given .1)
 
 mul-n : tie.Need-mul-n
 mul-n c = omega (arith, fine c .few)
@@ -64,7 +65,7 @@ returns-2 c =
     let start = wrote .before .before .before .before .before .before .before .before .before .before .before in
     let input = start .args .input .now in
     let h = sym (call .0) ∙ given .1 in
-    let words = ap (take (rowWords * given .0 .1 .1 .0)) (call .1) ∙ front-words input (replicate (rowWords * mostRows) 0) _ _ _ h in
+    let words = ap (take (rowWords * given .0 .1 .1 .0)) (call .1) ∙ front-words mostRows input (replicate (rowWords * mostRows) 0) _ _ _ h in
     let by = read input (start .args .output .now) _ _ _ _ h words in
     (c .length-of .ensures ∙ ap lengthOf (wrote .write .ensures .0) ∙ by .0, wrote .write .ensures .1 ∙ by .1)
 

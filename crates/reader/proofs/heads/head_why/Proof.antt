@@ -8,20 +8,20 @@ use Rattle.reader.proofs.heads.head_why.Tie as tie
 returns : tie.Need-returns
 returns c =
     let a = c .before .before .args in
-    sym (over-variables (a .s .now) (a .room) (a .variables) (a .budget) (a .rows) (a .from) (c .if1 .taken))
+    sym (over-variables (a .most) (a .s .now) (a .room) (a .variables) (a .budget) (a .rows) (a .from) (c .if1 .taken))
 
 returns-2 : tie.Need-returns-2
 returns-2 c =
     let one = c .before in
     let a = one .before .before .args in
-    sym (over-budget (a .s .now) (a .room) (a .variables) (a .budget) (a .rows) (a .from) (one .if1 .left) (c .if2 .taken))
+    sym (over-budget (a .most) (a .s .now) (a .room) (a .variables) (a .budget) (a .rows) (a .from) (one .if1 .left) (c .if2 .taken))
 
 returns-3 : tie.Need-returns-3
 returns-3 c =
     let two = c .before in
     let one = two .before in
     let a = one .before .before .args in
-    sym (over-rows (a .s .now) (a .room) (a .variables) (a .budget) (a .rows) (a .from) (one .if1 .left) (two .if2 .left) (c .if3 .taken))
+    sym (over-rows (a .most) (a .s .now) (a .room) (a .variables) (a .budget) (a .rows) (a .from) (one .if1 .left) (two .if2 .left) (c .if3 .taken))
 
 mul-if4 : tie.Need-mul-if4
 mul-if4 c = search needs
@@ -33,7 +33,7 @@ returns-4 c =
     let one = two .before in
     let a = one .before .before .args in
     sym
-    (over-room (a .s .now) (a .room) (a .variables) (a .budget) (a .rows) (a .from)
+    (over-room (a .most) (a .s .now) (a .room) (a .variables) (a .budget) (a .rows) (a .from)
     (one .if1 .left) (two .if2 .left) (three .if3 .left) (c .if4 .taken))
 
 rest-why-requires : tie.Need-rest-why-requires
@@ -48,7 +48,7 @@ returns-5 c =
     let a = one .before .before .args in
     c .rest-why .ensures
     ∙ sym
-    (to-rest (a .s .now) (a .room) (a .variables) (a .budget) (a .rows) (a .from)
+    (to-rest (a .most) (a .s .now) (a .room) (a .variables) (a .budget) (a .rows) (a .from)
     (one .if1 .left) (two .if2 .left) (three .if3 .left) (four .if4 .left))
 
 pub head-why-spec : {M : Type 1} → statement M

@@ -1,10 +1,10 @@
--- `read` meets its contract: refused by the head, or what is behind it.
+-- `read_up_to` meets its contract: refused by the head, or what is behind it.
 use borrow.Author.Needs.{needs}
 use Rattle.text_laws.proofs.Matched.{matched}
 use Rattle.text_laws.proofs.Reading.{read-broken}
 use Rattle.reader.proofs.Rest.{behind-read}
-use Rattle.reader.proofs.read.Statement.{statement}
-use Rattle.reader.proofs.read.Tie as tie
+use Rattle.reader.proofs.inner.read_up_to.Statement.{statement}
+use Rattle.reader.proofs.inner.read_up_to.Tie as tie
 
 head-at-requires : tie.Need-head-at-requires
 head-at-requires c κs = search needs
@@ -21,7 +21,7 @@ read-rest-requires c κs = search needs
 returns : tie.Need-returns
 returns c =
     let a = c .before .before .before .before .before .before .args in
-    read-broken (a .s .now) (a .table .now) _ (matched (c .before .before .before .head-at .ensures) (c .before .line .given .1))
+    read-broken (a .most) (a .s .now) (a .table .now) _ (matched (c .before .before .before .head-at .ensures) (c .before .line .given .1))
 
 same-length : tie.Need-same-length
 same-length c = search needs
@@ -30,11 +30,11 @@ returns-2 : tie.Need-returns-2
 returns-2 c =
     let head = c .before .before .before .before .before in
     let a = head .before .before .before .before .before .args in
-    behind-read (a .s .now) (a .table .now) _ _ _ _ _ _ _ (head .before .before .head-at .ensures) (head .variables .given .1)
+    behind-read (a .most) (a .s .now) (a .table .now) _ _ _ _ _ _ _ (head .before .before .head-at .ensures) (head .variables .given .1)
     (c .before .before .read-rest .ensures)
 
-pub read-spec : {M : Type 1} → statement M
-read-spec =
+pub read-up-to-spec : {M : Type 1} → statement M
+read-up-to-spec =
     tie.close
     (tie.spec
     head-at-requires
