@@ -79,7 +79,7 @@ setWeight d i w = setRow d i (withWeight (rowOn d i) w)
 unfoldable pub weightOn : List ℕ → ℕ
 weightOn d = conceded d + sum (inUse d) (λ i. rowOn d i .weight)
 
--- (a) the lent words reach the end of the desk, with C at most 1,024
+-- (a) the lent words reach the end of the desk, with C at most 4,096
 unfoldable pub reaches : List ℕ → Bool
 reaches d = leb (capacity d) mostCapacity && leb (deskWords (capacity d)) (length d)
 
