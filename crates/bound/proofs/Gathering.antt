@@ -2,7 +2,7 @@
 -- its unit weights.
 use Prim.Native.Nat.{ℕ, _+_, _<_, min}
 use mathlib.Core.List.{List}
-use mathlib.Core.Path.{_≡_, sym, ap, ap₂, _∙_}
+use mathlib.Core.Path.{_≡_, sym, ap, ap₂, subst, _∙_}
 use mathlib.Core.Bool.{cond}
 use native.Mathlib.Omega.{arith}
 use lib.ListN.{getD, replicate, length-replicate, getD-replicate}
@@ -29,6 +29,9 @@ module _ (d : List ℕ) (p : Part) where
         words = length-replicate {A = ℕ} sumWords 0;
         each = λ k h. getD-replicate {A = ℕ} sumWords k 0 0 h ∙ sym (sum-empty (λ i. rowAdds p (rowOn d i) k));
       }
+
+  pub gathered-at : {m n : ℕ} {sums : List ℕ} → m ≡ n → Gathered d p m sums → Gathered d p n sums
+  gathered-at {sums = sums} e gathered = subst (λ (k : ℕ). Gathered d p k sums) e gathered
 
   module _ (n : ℕ) (sums : List ℕ) (gathered : Gathered d p n sums) (row : Row) (next : row ≡ rowOn d n) where
     pub gathered-more : (after : List ℕ) → Grown (rowAdds p row) sums after → Gathered d p (n + 1) after

@@ -1,13 +1,13 @@
 // Document 01's bound under any partial reading, of a desk that the caller has judged: what a search by it asks at each node.
 ghost use mathlib.Core.Path.{_≡_};
-ghost use Prim.Native.Nat.{_<_};
+ghost use Prim.Native.Nat.{_+_, _≤_, _<_};
 ghost use lib.ListN.{length};
 ghost use Rattle.literals.specs.Literal.{mostVariables};
 ghost use Rattle.rules.specs.Desk.{inUse, decisions};
 ghost use Rattle.rules.specs.Bound.{lostBeyond, foreseen, bound, lossesAt};
 ghost use Rattle.units.specs.Adds.{sumWords};
 ghost use Rattle.desk_laws.specs.Readable.{Readable};
-ghost use Rattle.bound.specs.Units.{Gathered, smallerAt};
+ghost use Rattle.bound.specs.Units.{Gathered, lostOf, smallerAt};
 use rules::Desk;
 use rules::Losses;
 use rules::Part;
@@ -25,7 +25,29 @@ pub fn decisions(desk: &[u64]) -> Part
     Part { decided, truths }
 }
 
-// One pass over the rows in use: the sums of units are gathered in the lent words, and the result is what is lost.
+// Rows in a turn of the pass: a count that the compiler knows, so that a turn has no loop of its own.
+const TURN: usize = 4;
+
+// The pass over the next rows, so many of them: the sums of units are gathered in the lent words, and the result is what is lost by then.
+fn gather_next(desk: &[u64], p: Part, from: usize, count: usize, base: u64, sums: &mut [u64]) -> u64
+    requires { ⌜ Readable (now desk) ⌝ }
+    requires { ⌜ from + count ≤ inUse (now desk) ⌝ }
+    requires { ⌜ base ≡ lostOf (now desk) p from ⌝ }
+    requires { ⌜ Gathered (now desk) p from (now sums) ⌝ }
+    ensures { λ r. ⌜ r ≡ lostOf (now (desk .entry)) p (from + count) ⌝ }
+    ensures { λ _. ⌜ Gathered (now (desk .entry)) p (from + count) (now (sums .exit)) ⌝ }
+{
+    let mut lost = base;
+    let mut i = 0;
+    while i < count {
+        let row = row_on(desk, from + i);
+        lost = add_row(p, row, lost, sums);
+        i += 1;
+    }
+    lost
+}
+
+// One pass over the rows in use.
 fn gather(desk: &[u64], p: Part, sums: &mut [u64]) -> u64
     requires { ⌜ Readable (now desk) ⌝ }
     requires { ⌜ Gathered (now desk) p 0 (now sums) ⌝ }
@@ -35,12 +57,11 @@ fn gather(desk: &[u64], p: Part, sums: &mut [u64]) -> u64
     let n = rules::word(desk, Desk::IN_USE) as usize;
     let mut lost = 0;
     let mut i = 0;
-    while i < n {
-        let row = row_on(desk, i);
-        lost = add_row(p, row, lost, sums);
-        i += 1;
+    while n - i >= TURN {
+        lost = gather_next(desk, p, i, TURN, lost, sums);
+        i += TURN;
     }
-    lost
+    gather_next(desk, p, i, n - i, lost, sums)
 }
 
 // What the variable with bit v adds: the smaller of its two sums, and nothing where it is decided.

@@ -8,21 +8,22 @@ use mathlib.Core.Logic.{⊎-elim}
 use native.Mathlib.Nat.{pos-of-ne-zero}
 use native.Mathlib.Omega.{arith}
 use borrow.Author.Tests.{eqb-true, eq-eqb}
-use lib.Bits.{bitAnd, bitOr, and-zero-l, or-zero-l, or-lt}
+use lib.Bits.{bitAnd, bitOr, bitXor, and-zero-l, or-comm, or-zero-l, or-zero-r}
 use lib.Dec.{eqb}
-use Rattle.masks.specs.Masks.{count, without}
+use Rattle.masks.specs.Masks.{count, without, none}
 use Rattle.masks.proofs.Choice.{cases, not-so, clash, cond-same}
 use Rattle.masks.proofs.Counts.{count-zero, count-pos, count-empty, count-or-and, count-mono}
-use Rattle.masks.proofs.Sets.{or-empty, and-lt-left, and-within, within-union, within-trans}
+use Rattle.masks.proofs.Sets.{or-empty, and-or-without, without-lt, and-lt-left, and-within, within-union, within-trans}
 use Rattle.literals.specs.declared.Lits.{Lits}
 use Rattle.literals.specs.Lits.{isEmpty, isOne, sameLits}
-use Rattle.literals.proofs.TwoMasks.{Held, empty-masks, masks-empty}
+use Rattle.literals.proofs.TwoMasks.{Held, lits-ext, empty-masks, masks-empty}
 use Rattle.rules.specs.declared.Row.{Row}
 use Rattle.rules.specs.declared.Part.{Part}
 use Rattle.rules.specs.Desk.{satisfied, remnant}
 use Rattle.rules.specs.Bound.{weightWhere}
 use Rattle.desk_laws.proofs.Readings.{one-alone}
 use Rattle.units.specs.Adds.{sumWords, unitAt, placeOf, weightUnder, placeAdds, rowAdds, Roomy, Grown}
+use Rattle.units.proofs.Ways.{someOf, twiceOf, some-left, positive-left, negative-left, untrue-test}
 use Rattle.units.proofs.Places.{unitAdds, unit-adds, place-within, same-one, no-unit, none-grown, grown-as}
 
 -- ---- a row under a partial reading
@@ -34,12 +35,25 @@ by-tests false true twice w h = rw (h refl)
 by-tests true false twice w h = refl
 by-tests false false twice w h = refl
 
-under-most : (none : Bool) (w : ℕ) → cond none 0 w ≤ w
+-- the weight of a row where it is not satisfied and these variables, left both ways, are none
+abbrev weightBut : Part → Row → ℕ → ℕ
+weightBut p row twice = cond (satisfied p (row .lits) || not (eqb twice 0)) 0 (row .weight)
+
+by-none : (true-up true-down twice : Bool) (w : ℕ) → cond (true-up && true-down && twice) w 0 ≡ cond (not true-up || not true-down || not twice) 0 w
+by-none true true true w = refl
+by-none true true false w = refl
+by-none true false twice w = refl
+by-none false true twice w = refl
+by-none false false twice w = refl
+
+under-most : (all : Bool) (w : ℕ) → cond all w 0 ≤ w
 under-most true w = omega arith
 under-most false w = omega arith
 
-pub under-le : (p : Part) (row : Row) (twice : ℕ) → weightUnder p row twice ≤ row .weight
-under-le p row twice = under-most (satisfied p (row .lits) || not (eqb twice 0)) (row .weight)
+pub under-le : (p : Part) (row : Row) (negative : ℕ) → weightUnder p row negative ≤ row .weight
+under-le p row negative =
+    let l = row .lits in
+    under-most (eqb (bitOr (bitAnd (bitXor (l .positive) (l .negative)) (p .truths)) negative) (l .negative)) (row .weight)
 
 -- ---- what two masks hold
 
@@ -67,80 +81,157 @@ module _ (a b : ℕ) where
 
 -- ---- what a row adds, by what is left of it
 
--- what is left of a row, and how many ones are counted there
-pub record Left (p : Part) (row : Row) (rest : Lits) (ones : ℕ) : Type 0 where
-  pub is : rest ≡ remnant p (row .lits)
-  pub held : Held rest
-  pub counted : ones ≡ count (bitOr (rest .positive) (rest .negative))
+-- the variables that are left of a row one way, and how many ones are counted there
+pub record Left (p : Part) (row : Row) (some ones : ℕ) : Type 0 where
+  pub is : some ≡ someOf (row .lits .positive) (row .lits .negative) (p .decided)
+  pub held : Held (row .lits)
+  pub within : some < 2 ^ 64
+  pub counted : ones ≡ count some
 
-module _ {p : Part} {row : Row} {rest : Lits} {ones : ℕ} (left : Left p row rest ones) where
+module _ {p : Part} {row : Row} {some ones : ℕ} (left : Left p row some ones) where
+  abbrev up : ℕ
+  up = row .lits .positive
+
+  abbrev down : ℕ
+  down = row .lits .negative
+
+  abbrev rest : Lits
+  rest = record { positive = without up (p .decided); negative = without down (p .decided) }
+
   abbrev twice : ℕ
   twice = bitAnd (rest .positive) (rest .negative)
 
-  where-left : (test : Lits → Bool) → (test rest ≡ true → twice ≡ 0) → weightWhere test p row ≡ cond (test rest) (weightUnder p row twice) 0
-  unfolding weightWhere
+  abbrev negative : ℕ
+  negative = bitAnd some down
+
+  -- the literals on those variables
+  abbrev lone : Lits
+  lone = record { positive = bitXor some negative; negative = negative }
+
+  rest-held : Held rest
+  rest-held =
+      record {
+        positives = without-lt 64 (p .decided) (left .held .positives);
+        negatives = without-lt 64 (p .decided) (left .held .negatives);
+      }
+
+  lone-held : Held lone
+  unfolding without
+  lone-held =
+      record {
+        positives = without-lt 64 down (left .within);
+        negatives = and-lt-left 64 down (left .within);
+      }
+
+  weighs : weightUnder p row negative ≡ weightBut p row twice
+  unfolding satisfied none
+  weighs =
+      ap (λ (m : ℕ). weightUnder p row (bitAnd m down)) (left .is)
+      ∙ ap (λ (b : Bool). cond b (row .weight) 0) (untrue-test up down (p .decided) (p .truths))
+      ∙ by-none (eqb (bitAnd up (p .truths)) 0) (eqb (bitAnd down (without (p .decided) (p .truths))) 0) (eqb twice 0) (row .weight)
+
+  where-left : (test : Lits → Bool) → (test rest ≡ true → twice ≡ 0) → weightWhere test p row ≡ cond (test rest) (weightBut p row twice) 0
+  unfolding weightWhere remnant
   where-left test apart =
-      ap (λ (l : Lits). cond {A = ℕ} (not (satisfied p (row .lits)) && test l) (row .weight) 0) (sym (left .is))
-      ∙ by-tests (satisfied p (row .lits)) (test rest) (not (eqb twice 0)) (row .weight) (λ t. rw (eq-eqb twice 0 (apart t)))
+      by-tests (satisfied p (row .lits)) (test rest) (not (eqb twice 0)) (row .weight) (λ t. rw (eq-eqb twice 0 (apart t)))
 
   -- at the place of each literal
-  where-unit : (k : ℕ) → k < sumWords → rowAdds p row k ≡ unitAdds rest (weightUnder p row twice) k
+  where-unit : (k : ℕ) → k < sumWords → rowAdds p row k ≡ unitAdds rest (weightBut p row twice) k
   where-unit k h =
       where-left (sameLits (unitAt k))
-      (λ t. left-one (rest .positive) (rest .negative) (left .held .positives) (same-one k h rest t) .1)
+      (λ t. left-one (rest .positive) (rest .negative) (rest-held .positives) (same-one k h rest t) .1)
+
+  with-none : (m : ℕ) → twice ≡ 0 → m ≡ bitOr m twice
+  with-none m e = sym (or-zero-r m) ∙ ap (bitOr m) (sym e)
+
+  -- where no variable is left both ways, these are the row's remnant
+  all-left : twice ≡ 0 → some ≡ bitOr (rest .positive) (rest .negative)
+  all-left e = left .is ∙ with-none (someOf up down (p .decided)) e ∙ some-left up down (p .decided)
+
+  all-lone : twice ≡ 0 → lone ≡ rest
+  all-lone e =
+      let these : ℕ = someOf up down (p .decided) in
+      lits-ext lone rest
+      (ap (λ (m : ℕ). bitXor m (bitAnd m down)) (left .is) ∙ with-none (bitXor these (bitAnd these down)) e ∙ positive-left up down (p .decided))
+      (ap (λ (m : ℕ). bitAnd m down) (left .is) ∙ with-none (bitAnd these down) e ∙ negative-left up down (p .decided))
+
+  -- and where one is, the row has no weight
+  no-weight : eqb twice 0 ≡ false → weightBut p row twice ≡ 0
+  no-weight t =
+      let is : Bool = satisfied p (row .lits) in
+      ap (λ (b : Bool). cond b 0 (row .weight)) (ap (λ (x : Bool). is || not x) t ∙ or-true is)
+
+  empty-some : isEmpty rest ≡ true → some ≡ 0
+  empty-some t =
+      let m = empty-masks rest t in
+      left .is ∙ or-empty (someOf up down (p .decided)) twice (some-left up down (p .decided) ∙ rw (m .0, m .1) (or-zero-l 0)) .0
 
   none-lost : (ones ≡ 0 → ⊥) → weightWhere isEmpty p row ≡ 0
-  none-lost some =
-      let e : isEmpty rest ≡ false = some-ones (rest .positive) (rest .negative) (λ z. some (left .counted ∙ z)) in
+  none-lost any =
+      let e : isEmpty rest ≡ false = not-so (λ t. any (omega (arith, left .counted, ap count (empty-some t), count-zero))) in
       where-left isEmpty (λ t. absurd (clash t e)) ∙ rw e
 
   none-gathered : (sums : List ℕ) → (ones ≡ 1 → ⊥) → Grown (rowAdds p row) sums sums
   none-gathered sums other =
       let e : isOne rest ≡ false =
-      not-so (λ t. other (left .counted ∙ left-one (rest .positive) (rest .negative) (left .held .positives) t .0)) in
-      none-grown (rowAdds p row) sums (λ k h. where-unit k h ∙ no-unit rest (weightUnder p row twice) e k h)
+      not-so
+      (λ t.
+      let o = left-one (rest .positive) (rest .negative) (rest-held .positives) t in
+      other (left .counted ∙ ap count (all-left (o .1)) ∙ o .0)) in
+      none-grown (rowAdds p row) sums (λ k h. where-unit k h ∙ no-unit rest (weightBut p row twice) e k h)
 
   pub more-adds : (lost : ℕ) (sums : List ℕ) → 1 < ones → (lost ≡ lost + weightWhere isEmpty p row) × Grown (rowAdds p row) sums sums
   more-adds lost sums more = (omega (arith, none-lost (λ z. omega arith)), none-gathered sums (λ z. omega arith))
 
-  pub empty-adds : (w : ℕ) → w ≡ weightUnder p row 0 → (lost : ℕ) (sums : List ℕ) → bitOr (rest .positive) (rest .negative) ≡ 0
+  -- nothing is left one way: nothing at all, or a variable both ways
+  all-lost : some ≡ 0 → cond (isEmpty rest) (weightBut p row twice) 0 ≡ weightBut p row twice
+  all-lost none =
+      ⊎-elim
+      (λ t. let m = or-empty (rest .positive) (rest .negative) (sym (all-left (eqb-true twice 0 t)) ∙ none) in rw (masks-empty rest (m .0) (m .1)))
+      (λ t. rw (no-weight t) (cond-same (isEmpty rest) 0))
+      (cases (eqb twice 0))
+
+  pub empty-adds : (w : ℕ) → w ≡ weightUnder p row 0 → (lost : ℕ) (sums : List ℕ) → some ≡ 0
       → (lost + w ≡ lost + weightWhere isEmpty p row) × Grown (rowAdds p row) sums sums
-  empty-adds w weighs lost sums none =
-      let m = or-empty (rest .positive) (rest .negative) none in
-      let empty : isEmpty rest ≡ true = masks-empty rest (m .0) (m .1) in
-      let apart : twice ≡ 0 = rw (m .0) (and-zero-l (rest .negative)) in
-      let is = weighs ∙ ap (weightUnder p row) (sym apart) ∙ sym (where-left isEmpty (λ t. apart) ∙ rw empty) in
+  empty-adds w weigh lost sums none =
+      let no-negative : negative ≡ 0 = rw none (and-zero-l down) in
+      let apart : isEmpty rest ≡ true → twice ≡ 0 = λ t. rw (empty-masks rest t .0) (and-zero-l (rest .negative)) in
+      let is = weigh ∙ ap (weightUnder p row) (sym no-negative) ∙ weighs ∙ sym (where-left isEmpty apart ∙ all-lost none) in
       (ap (λ (x : ℕ). lost + x) is, none-gathered sums (λ e. omega (arith, left .counted, ap count none, count-zero)))
 
-  pub one-of : (bitOr (rest .positive) (rest .negative) ≡ 0 → ⊥) → ones ≤ 1 → ones ≡ 1
-  one-of some most =
-      let held = left .held in
-      let any = or-lt 64 (rest .positive) (rest .negative) (held .positives) (held .negatives) in
-      omega (arith, left .counted, count-pos any (pos-of-ne-zero some))
+  pub one-of : (some ≡ 0 → ⊥) → ones ≤ 1 → ones ≡ 1
+  one-of any most = omega (arith, left .counted, count-pos (left .within) (pos-of-ne-zero any))
 
-  pub place-there : ones ≡ 1 → placeOf rest < sumWords
-  place-there one = place-within rest (left .held) (pos-of-ne-zero (λ z. omega (arith, left .counted, ap count z, count-zero)))
+  pub place-there : ones ≡ 1 → placeOf lone < sumWords
+  unfolding without
+  place-there one =
+      let all : bitOr (lone .positive) (lone .negative) ≡ some = or-comm (lone .positive) negative ∙ and-or-without some down in
+      place-within lone lone-held (pos-of-ne-zero (λ z. omega (arith, left .counted, ap count (sym all ∙ z), count-zero)))
 
-  module _ (w : ℕ) (weighs : w ≡ weightUnder p row twice) where
+  module _ (w : ℕ) (weigh : w ≡ weightUnder p row negative) where
     pub roomy-under : {sums : List ℕ} → Roomy (row .weight) sums → Roomy w sums
-    roomy-under roomy = record { words = roomy .words; fits = λ k h. omega (arith, roomy .fits k h, under-le p row twice) }
+    roomy-under roomy = record { words = roomy .words; fits = λ k h. omega (arith, roomy .fits k h, under-le p row negative) }
 
-    -- one place is left: a literal, or a variable both ways, which weighs nothing
-    there : ones ≡ 1 → (k : ℕ) → k < sumWords → placeAdds (placeOf rest) w k ≡ rowAdds p row k
+    -- one place is left
+    there : ones ≡ 1 → (k : ℕ) → k < sumWords → placeAdds (placeOf lone) w k ≡ rowAdds p row k
     there one k h =
         ⊎-elim
         (λ t.
-        let alone = one-alone rest (left .held) (one-left (rest .positive) (rest .negative) (sym (left .counted) ∙ one) (eqb-true twice 0 t)) in
-        unit-adds rest alone w k h ∙ ap (λ (x : ℕ). unitAdds rest x k) weighs ∙ sym (where-unit k h))
+        let e = eqb-true twice 0 t in
+        let ones = ap count (sym (all-left e)) ∙ sym (left .counted) ∙ one in
+        let alone = one-alone rest rest-held (one-left (rest .positive) (rest .negative) ones e) in
+        ap (λ (l : Lits). placeAdds (placeOf l) w k) (all-lone e)
+        ∙ unit-adds rest alone w k h
+        ∙ ap (λ (x : ℕ). unitAdds rest x k) (weigh ∙ weighs)
+        ∙ sym (where-unit k h))
         (λ t.
-        let is : Bool = satisfied p (row .lits) in
-        let none : w ≡ 0 = weighs ∙ ap (λ (b : Bool). cond b 0 (row .weight)) (ap (λ (x : Bool). is || not x) t ∙ or-true is) in
+        let none : w ≡ 0 = weigh ∙ weighs ∙ no-weight t in
         let two : isOne rest ≡ false =
-        not-so (λ o. clash (eq-eqb twice 0 (left-one (rest .positive) (rest .negative) (left .held .positives) o .1)) t) in
-        rw none (cond-same (eqb k (placeOf rest)) 0) ∙ sym (where-unit k h ∙ no-unit rest (weightUnder p row twice) two k h))
+        not-so (λ o. clash (eq-eqb twice 0 (left-one (rest .positive) (rest .negative) (rest-held .positives) o .1)) t) in
+        rw none (cond-same (eqb k (placeOf lone)) 0) ∙ sym (where-unit k h ∙ no-unit rest (weightBut p row twice) two k h))
         (cases (eqb twice 0))
 
-    pub one-adds : (lost : ℕ) (before after : List ℕ) → ones ≡ 1 → Grown (placeAdds (placeOf rest) w) before after
+    pub one-adds : (lost : ℕ) (before after : List ℕ) → ones ≡ 1 → Grown (placeAdds (placeOf lone) w) before after
         → (lost ≡ lost + weightWhere isEmpty p row) × Grown (rowAdds p row) before after
     one-adds lost before after one grown =
-        (omega (arith, none-lost (λ z. omega arith)), grown-as (placeAdds (placeOf rest) w) (rowAdds p row) before after (there one) grown)
+        (omega (arith, none-lost (λ z. omega arith)), grown-as (placeAdds (placeOf lone) w) (rowAdds p row) before after (there one) grown)

@@ -2,8 +2,8 @@
 use Prim.Native.Nat.{ℕ, _+_, _-_, _*_, _^_, _<_}
 use mathlib.Core.List.{List}
 use mathlib.Core.Path.{_≡_}
-use mathlib.Core.Bool.{cond, not, _||_}
-use lib.Bits.{bitOr}
+use mathlib.Core.Bool.{cond}
+use lib.Bits.{bitAnd, bitOr, bitXor}
 use lib.Count.{trailingZeros}
 use lib.Dec.{eqb, ltb}
 use lib.ListN.{length, getD}
@@ -13,7 +13,6 @@ use Rattle.literals.specs.Literal.{mostVariables}
 use Rattle.literals.specs.Lits.{sameLits}
 use Rattle.rules.specs.declared.Row.{Row}
 use Rattle.rules.specs.declared.Part.{Part}
-use Rattle.rules.specs.Desk.{satisfied}
 use Rattle.rules.specs.Bound.{weightWhere}
 
 -- the literals of the variable with bit v
@@ -38,9 +37,11 @@ placeOf l =
     let v = trailingZeros 64 (bitOr (l .positive) (l .negative)) in
     cond (eqb (l .negative) 0) v (mostVariables + v)
 
--- the weight that a row still has, of which these variables are left both ways: none once it is satisfied, and none where there are such
+-- the weight that a row still has, of which these negative literals are left: its variables that are true, with those, are its negative ones
 abbrev pub weightUnder : Part → Row → ℕ → ℕ
-weightUnder p row twice = cond (satisfied p (row .lits) || not (eqb twice 0)) 0 (row .weight)
+weightUnder p row negative =
+    let l = row .lits in
+    cond (eqb (bitOr (bitAnd (bitXor (l .positive) (l .negative)) (p .truths)) negative) (l .negative)) (row .weight) 0
 
 -- what a weight added at one place adds at each
 abbrev pub placeAdds : ℕ → ℕ → ℕ → ℕ

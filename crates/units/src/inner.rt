@@ -9,8 +9,6 @@ use literals::Literal;
 use literals::Lits;
 use rules::Part;
 use rules::Row;
-use values::remnant;
-use values::satisfied;
 
 // Where the sums of negative literals begin, behind those of the positive ones.
 pub const NEGATIVE: usize = Literal::MOST as usize;
@@ -26,15 +24,15 @@ fn place(one: Lits) -> usize
     if one.negative == 0 { v } else { NEGATIVE + v }
 }
 
-// The weight that a row still has, of which these variables are left both ways: none once it is satisfied, and none where there are such.
-fn weight_under(p: Part, row: Row, twice: u64) -> u64
-    ensures { λ r. ⌜ r ≡ weightUnder p row twice ⌝ }
+// The weight that a row still has, of which these negative literals are left. It has all of it where its negative literals are just those on its
+// variables that are true, and those left: a positive literal that is true, a negative one that is, and a variable both ways each make the two
+// masks differ.
+fn weight_under(p: Part, row: Row, negative: u64) -> u64
+    ensures { λ r. ⌜ r ≡ weightUnder p row negative ⌝ }
 {
-    if satisfied(p, row.lits) | (twice != 0) {
-        0
-    } else {
-        row.weight
-    }
+    let l = row.lits;
+    let untrue = ((l.positive ^ l.negative) & p.truths) | negative;
+    if untrue == l.negative { row.weight } else { 0 }
 }
 
 // The sum at the place of the one literal that is left grows by the weight.
@@ -50,15 +48,16 @@ fn add_unit(rest: Lits, w: u64, sums: &mut [u64])
 
 // What a row adds to the sums, and as the result what is then lost. How much is left of it changes with the depth of a walk alone, and
 // is asked first; whether it is satisfied changes from node to node, and only chooses between its weight and 0. Whether there are ones at
-// all is seen without counting them.
+// all is seen without counting them. What is left is asked of the variables that the row has one way, which are all of them in a table's row;
+// where another has a variable both ways, it is satisfied or neither lost nor a unit, and has no weight.
 pub fn add_row(p: Part, row: Row, lost: u64, sums: &mut [u64]) -> u64
     requires { ⌜ lost + row .weight < 2 ^ 64 ⌝ }
     requires { ⌜ Roomy (row .weight) (now sums) ⌝ }
     ensures { λ r. ⌜ r ≡ lost + weightWhere isEmpty p row ⌝ }
     ensures { λ _. ⌜ Grown (rowAdds p row) (now (sums .entry)) (now (sums .exit)) ⌝ }
 {
-    let rest = remnant(p, row.lits);
-    let some = rest.positive | rest.negative;
+    let l = row.lits;
+    let some = masks::without(l.positive ^ l.negative, p.decided);
     let left = masks::count(some);
     if some == 0 {
         return lost + weight_under(p, row, 0);
@@ -66,10 +65,11 @@ pub fn add_row(p: Part, row: Row, lost: u64, sums: &mut [u64]) -> u64
     if left > 1 {
         return lost;
     }
-    add_unit(
-        rest,
-        weight_under(p, row, rest.positive & rest.negative),
-        sums,
-    );
+    let negative = some & l.negative;
+    let rest = Lits {
+        positive: some ^ negative,
+        negative,
+    };
+    add_unit(rest, weight_under(p, row, negative), sums);
     lost
 }

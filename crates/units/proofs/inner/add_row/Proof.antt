@@ -6,20 +6,21 @@ use Rattle.units.proofs.Ones.{Left, under-le, one-of, roomy-under, plac
 use Rattle.units.proofs.inner.add_row.Statement.{statement}
 use Rattle.units.proofs.inner.add_row.Tie as tie
 
-remnant-requires : tie.Need-remnant-requires
-remnant-requires c κs = search needs
+without-requires : tie.Need-without-requires
+without-requires c κs = search needs
 
 count-requires : tie.Need-count-requires
 count-requires c κs = search needs
 
 -- the ones are those of what is left
 left : (c : tie.After-count)
-    → let a = c .before .before .before .before .args in
-    Left (a .p) (a .row) (c .before .before .remnant .result) (c .count .result)
+    → let a = c .before .before .before .before .before .args in
+    Left (a .p) (a .row) (c .before .without .result) (c .count .result)
 left c =
     record {
-      is = c .before .before .remnant .ensures;
+      is = c .before .without .ensures;
       held = record { positives = search needs; negatives = search needs };
+      within = search needs;
       counted = c .count .ensures;
     }
 
@@ -28,7 +29,7 @@ weight-under-requires c κs = search needs
 
 add-result : tie.Need-add-result
 add-result c =
-    let s = c .before .before .before .before .before .before in
+    let s = c .before .before .before .before .before .before .before in
     omega (arith, s .pre .0, c .weight-under .ensures, under-le (s .args .p) (s .args .row) 0)
 
 returns : tie.Need-returns
@@ -49,7 +50,7 @@ add-unit-requires c κs =
     let unit = c .before .before .before in
     let l = left (unit .before .before) in
     let w = c .before .weight-under2 .ensures in
-    (place-there l (one unit), roomy-under l _ w (unit .before .before .before .before .before .before .pre .1))
+    (place-there l (one unit), roomy-under l _ w (unit .before .before .before .before .before .before .before .pre .1))
 
 same-length : tie.Need-same-length
 same-length c = search needs
@@ -64,7 +65,7 @@ pub add-row-spec : {M : Type 1} → statement M
 add-row-spec =
     tie.close
     (tie.spec
-    remnant-requires
+    without-requires
     count-requires
     weight-under-requires
     add-result
