@@ -30,7 +30,7 @@ use Rattle.rules.specs.Reader.{textRead, readWords}
 abbrev pub mostInput : ℕ
 mostInput = 65_536
 
--- "The program still refuses over 512 rows with 2, where the reader would."
+-- Document 02, C-15: "The program still refuses over 512 rows with 2, where the reader would."
 abbrev pub mostInputRows : ℕ
 mostInputRows = 512
 
