@@ -7,7 +7,7 @@
 
 enum { ROWS = OLIKUMPASHO_MOST_ROWS, WORDS = OLIKUMPASHO_DESK_WORDS(OLIKUMPASHO_MOST_CAPACITY), STEPS = 64 };
 
-static uint64_t table[3 * ROWS], desk[WORDS], clean[WORDS], decided[WORDS], shifted[WORDS];
+static uint64_t table[OLIKUMPASHO_TABLE_WORDS(ROWS)], desk[WORDS], clean[WORDS], decided[WORDS], shifted[WORDS];
 static uint64_t rows, words, state = 20261116;
 
 static void asked(uint64_t no)
@@ -23,22 +23,22 @@ static uint64_t draw(void)
     return state;
 }
 
-// Rows of two literals, but for the first two, x1 and (not x1, x2), which can be shifted there and back.
+// Soft rows of two literals, but for the first two, x1 and (not x1, x2), which can be shifted there and back.
 static void make_table(void)
 {
     for (uint64_t i = 0; i < rows; i++) {
-        uint64_t *row = table + 3 * i, first = draw() % 64, second = (first + 1 + draw() % 63) % 64;
+        uint64_t *row = table + OLIKUMPASHO_TABLE_WORDS(i), first = draw() % 64, second = (first + 1 + draw() % 63) % 64;
         row[draw() % 2] |= (uint64_t)1 << first;
         row[draw() % 2] |= (uint64_t)1 << second;
-        row[2] = 1 + draw() % 9;
+        row[OLIKUMPASHO_ROW_WEIGHT] = 1 + draw() % 9;
     }
-    table[0] = 1, table[1] = 0, table[2] = 9;
-    table[3] = 2, table[4] = 1, table[5] = 9;
+    static const uint64_t shifts[] = {1, 0, 9, OLIKUMPASHO_SOFT, 2, 1, 9, OLIKUMPASHO_SOFT};
+    memcpy(table, shifts, sizeof shifts);
 }
 
 static void load(void)
 {
-    asked(olikumpasho_load(64, table, 3 * rows, 2 * rows, desk, words));
+    asked(olikumpasho_load(64, table, OLIKUMPASHO_TABLE_WORDS(rows), 2 * rows, desk, words));
 }
 
 static void decide_all(void)

@@ -1,5 +1,5 @@
 // Part of twin.c, with -DGROUPS: the bound by groups. Working weights are copied once for a node, each scan passes over the rows, and the
-// hunt ends as soon as what is lost and what groups cost come to best: the walk asks no more of a bound.
+// hunt ends as soon as what is lost and what groups cost come to best: the walk asks no more of a bound. A dead node is known before any hunt.
 // With -DCOMPACT the rows that have a working weight are copied too, as remnants, and scans pass over these alone. With -DMASKED a scan
 // looks only at rows whose bit is set: in a mask of those with a working weight, and in one of those that pass its test, which for a
 // literal is made once for the search.
@@ -78,7 +78,7 @@ static void put(struct hunt *h, const struct row *r, size_t i, uint64_t weight)
     (void)r, (void)i;
 #if defined COMPACT
     if (weight != 0)
-        h->remnants[h->n++] = (struct row){r->positive & ~h->node_decided, r->negative & ~h->node_decided, weight};
+        h->remnants[h->n++] = (struct row){r->positive & ~h->node_decided, r->negative & ~h->node_decided, weight, 0};
 #else
     h->weights[i] = weight;
 #endif
@@ -91,7 +91,7 @@ static void put(struct hunt *h, const struct row *r, size_t i, uint64_t weight)
 }
 
 // What is lost, and the working weights.
-static uint64_t set_out(struct hunt *h, const struct search *s, uint64_t decided, uint64_t truths)
+static uint64_t set_out(struct hunt *h, const struct search *s, uint64_t decided, uint64_t truths, uint64_t charge)
 {
     uint64_t lost = 0;
     h->node_decided = decided;
@@ -109,7 +109,7 @@ static uint64_t set_out(struct hunt *h, const struct search *s, uint64_t decided
         const struct row *r = &s->rows[i];
         int out = satisfied(r, decided, truths), empty = remnant(r, decided) == 0;
         if (!out && empty)
-            lost += r->weight;
+            lost += charged(r, charge);
         put(h, r, i, out || empty ? 0 : r->weight);
     }
     return lost;
@@ -227,10 +227,12 @@ static uint64_t take_cost(struct hunt *h, size_t conflict)
 }
 
 // Foreseen is right where the total is below enough, and else comes to it.
-static struct losses losses_to(const struct search *s, uint64_t decided, uint64_t truths, uint64_t enough)
+static struct losses charged_to(const struct search *s, uint64_t decided, uint64_t truths, uint64_t charge, uint64_t enough)
 {
     struct hunt h;
-    struct losses l = {set_out(&h, s, decided, truths), 0};
+    struct losses l = {set_out(&h, s, decided, truths, charge), 0};
+    if (l.lost > MOST_WEIGHT)
+        return (struct losses){DEAD, 0};
     while (l.lost + l.foreseen < enough) {
         size_t conflict = hunt(&h, decided, truths);
         if (conflict == NO_CONFLICT)
@@ -240,7 +242,12 @@ static struct losses losses_to(const struct search *s, uint64_t decided, uint64_
     return l;
 }
 
-static struct losses losses(const struct search *s, uint64_t decided, uint64_t truths)
+static struct losses losses_to(const struct search *s, uint64_t decided, uint64_t truths, uint64_t enough)
 {
-    return losses_to(s, decided, truths, UINT64_MAX);
+    return charged_to(s, decided, truths, DEAD, enough);
+}
+
+static struct losses losses(const struct search *s, uint64_t decided, uint64_t truths, uint64_t charge)
+{
+    return charged_to(s, decided, truths, charge, UINT64_MAX);
 }

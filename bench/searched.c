@@ -7,7 +7,7 @@
 enum { MOST_INPUT = 65536, ROWS = 512, WORDS = OLIKUMPASHO_DESK_WORDS(ROWS) };
 
 static uint8_t text[MOST_INPUT];
-static uint64_t table[3 * ROWS], desk[WORDS];
+static uint64_t table[OLIKUMPASHO_TABLE_WORDS(ROWS)], desk[WORDS];
 
 static void asked(uint64_t no)
 {
@@ -27,11 +27,11 @@ int main(int count, char **words)
 {
     uint64_t choice = count > 1 ? strtoull(words[1], NULL, 10) : OLIKUMPASHO_UNITS;
     uint64_t head[3], losses[OLIKUMPASHO_LOSSES_WORDS], found[OLIKUMPASHO_FOUND_WORDS];
-    asked(olikumpasho_read(text, fread(text, 1, sizeof text, stdin), table, 3 * ROWS, head));
-    asked(olikumpasho_load(head[0], table, 3 * head[2], ROWS, desk, WORDS));
+    asked(olikumpasho_read(text, fread(text, 1, sizeof text, stdin), table, OLIKUMPASHO_TABLE_WORDS(ROWS), head));
+    asked(olikumpasho_load(head[0], table, OLIKUMPASHO_TABLE_WORDS(head[2]), ROWS, desk, WORDS));
     asked(olikumpasho_bound(desk, WORDS, choice, losses));
     asked(olikumpasho_search(desk, WORDS, choice, (uint32_t)head[1], found));
-    printf("status=%s\n", found[OLIKUMPASHO_FOUND_STATUS] == OLIKUMPASHO_DONE ? "done" : "stopped");
+    printf("status=%s\n", (const char *[]){"done", "stopped", "impossible"}[found[OLIKUMPASHO_FOUND_STATUS]]);
     if (found[1])
         printf("weight=%" PRIu64 "\n", found[OLIKUMPASHO_FOUND_WEIGHT]);
     else

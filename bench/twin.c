@@ -1,5 +1,6 @@
 // The same walk with the same bound, plainly written in C: what the program is timed against. It takes a well-formed text for
-// granted, refuses nothing and shares no code with the project. With -DLEFT_FIRST it asks what is left of a row before whether the
+// granted, refuses nothing and shares no code with the project. A hard row that is lost adds a charge to what is lost, so that the
+// pass over the rows tells a dead node too. With -DLEFT_FIRST it asks what is left of a row before whether the
 // row is satisfied, as the program does. With -DPASS_PER_VARIABLE it passes over the rows once for lost and once for each undecided
 // variable. With -DGROUPS the bound is that by groups. With -DUNDECIDED it also writes, to standard error, how many variables were
 // undecided at the nodes it visited, summed.
@@ -10,10 +11,11 @@
 #include <stdlib.h>
 #include <string.h>
 
-enum { MOST_VARIABLES = 64, MOST_ROWS = 512, MOST_INPUT = 65536 };
+enum { MOST_VARIABLES = 64, MOST_ROWS = 512, MOST_WEIGHT = 1000000000, MOST_INPUT = 65536 };
+enum { NO_CHARGE = 0, DEAD = MOST_WEIGHT + 1 }; // for a hard row that is lost: at the root, whose losses are written, and at a node
 
 struct row {
-    uint64_t positive, negative, weight;
+    uint64_t positive, negative, weight, hard;
 };
 
 struct search {
@@ -38,6 +40,12 @@ static int satisfied(const struct row *r, uint64_t decided, uint64_t truths)
     return (r->positive & truths) || (r->negative & decided & ~truths);
 }
 
+// What a row adds to what is lost: a hard one weighs 0.
+static uint64_t charged(const struct row *r, uint64_t charge)
+{
+    return r->weight + (r->hard ? charge : 0);
+}
+
 static uint64_t smaller(uint64_t positive, uint64_t negative)
 {
     return positive < negative ? positive : negative;
@@ -47,7 +55,7 @@ static uint64_t smaller(uint64_t positive, uint64_t negative)
 #include "groups.c"
 #elif !defined PASS_PER_VARIABLE
 // What is lost, and a sum for each literal: the weights of the rows of which it alone is left.
-static uint64_t gather(const struct search *s, uint64_t decided, uint64_t truths, uint64_t positive[], uint64_t negative[])
+static uint64_t gather(const struct search *s, uint64_t decided, uint64_t truths, uint64_t charge, uint64_t positive[], uint64_t negative[])
 {
     uint64_t lost = 0;
     for (size_t i = 0; i < s->n; i++) {
@@ -57,14 +65,14 @@ static uint64_t gather(const struct search *s, uint64_t decided, uint64_t truths
             continue;
         uint64_t remnant = (r->positive | r->negative) & ~decided;
         if (remnant == 0)
-            lost += r->weight;
+            lost += charged(r, charge);
         else if (__builtin_popcountll(remnant) == 1)
             (r->positive & remnant ? positive : negative)[__builtin_ctzll(remnant)] += r->weight;
 #else
         struct row r = s->rows[i];
         uint64_t remnant = (r.positive | r.negative) & ~decided;
         if (remnant == 0)
-            lost += satisfied(&r, decided, truths) ? 0 : r.weight;
+            lost += satisfied(&r, decided, truths) ? 0 : charged(&r, charge);
         else if (__builtin_popcountll(remnant) == 1)
             (r.positive & remnant ? positive : negative)[__builtin_ctzll(remnant)] += satisfied(&r, decided, truths) ? 0 : r.weight;
 #endif
@@ -72,23 +80,25 @@ static uint64_t gather(const struct search *s, uint64_t decided, uint64_t truths
     return lost;
 }
 
-static struct losses losses(const struct search *s, uint64_t decided, uint64_t truths)
+static struct losses losses(const struct search *s, uint64_t decided, uint64_t truths, uint64_t charge)
 {
     uint64_t positive[MOST_VARIABLES] = {0}, negative[MOST_VARIABLES] = {0};
-    struct losses l = {gather(s, decided, truths, positive, negative), 0};
+    struct losses l = {gather(s, decided, truths, charge, positive, negative), 0};
+    if (l.lost > MOST_WEIGHT)
+        return (struct losses){DEAD, 0};
     for (unsigned v = 0; v < s->variables; v++)
         if (!(decided >> v & 1))
             l.foreseen += smaller(positive[v], negative[v]);
     return l;
 }
 #else
-static uint64_t lost(const struct search *s, uint64_t decided, uint64_t truths)
+static uint64_t lost(const struct search *s, uint64_t decided, uint64_t truths, uint64_t charge)
 {
     uint64_t sum = 0;
     for (size_t i = 0; i < s->n; i++) {
         const struct row *r = &s->rows[i];
         if (!satisfied(r, decided, truths) && ((r->positive | r->negative) & ~decided) == 0)
-            sum += r->weight;
+            sum += charged(r, charge);
     }
     return sum;
 }
@@ -112,9 +122,11 @@ static uint64_t foreseen(const struct search *s, uint64_t decided, uint64_t trut
     return smaller(positive, negative);
 }
 
-static struct losses losses(const struct search *s, uint64_t decided, uint64_t truths)
+static struct losses losses(const struct search *s, uint64_t decided, uint64_t truths, uint64_t charge)
 {
-    struct losses l = {lost(s, decided, truths), 0};
+    struct losses l = {lost(s, decided, truths, charge), 0};
+    if (l.lost > MOST_WEIGHT)
+        return (struct losses){DEAD, 0};
     for (unsigned v = 0; v < s->variables; v++)
         if (!(decided >> v & 1))
             l.foreseen += foreseen(s, decided, truths, v);
@@ -126,7 +138,7 @@ static struct losses losses(const struct search *s, uint64_t decided, uint64_t t
 static struct losses losses_to(const struct search *s, uint64_t decided, uint64_t truths, uint64_t enough)
 {
     (void)enough;
-    return losses(s, decided, truths);
+    return losses(s, decided, truths, DEAD);
 }
 #endif
 
@@ -170,6 +182,7 @@ static uint64_t number_after(char **at, const char *key)
 static void read_row(char **at, struct row *r)
 {
     r->weight = number_after(at, "\nweight=");
+    r->hard = number_after(at, "\nhard=");
     *at += strlen("\nlits=");
     while (**at != '\n') {
         long long literal = strtoll(*at, at, 10);
@@ -195,7 +208,7 @@ static void read_text(struct search *s)
 
 static void write_answer(const struct search *s)
 {
-    printf("status=%s\n", s->stopped ? "stopped" : "done");
+    printf("status=%s\n", s->stopped ? "stopped" : s->kept ? "done" : "impossible");
     if (s->kept) {
         printf("weight=%" PRIu64 "\nnodes=%" PRIu64 "\nreading=", s->best, s->nodes);
         for (unsigned v = 0; v < s->variables; v++)
@@ -203,7 +216,7 @@ static void write_answer(const struct search *s)
         puts("");
     } else
         printf("weight=none\nnodes=%" PRIu64 "\nreading=none\n", s->nodes);
-    struct losses root = losses(s, 0, 0);
+    struct losses root = losses(s, 0, 0, NO_CHARGE);
     printf("conceded=0\nlost=%" PRIu64 "\nforeseen=%" PRIu64 "\n", root.lost, root.foreseen);
 }
 

@@ -38,10 +38,11 @@ int main()
 {
     try {
         if (Desk(0, {}, 0).bound() != std::vector<uint64_t>{0, 0, 0}) return 1; // no variables and no rows
-        Desk desk(3, {1, 0, 5, 0, 2, 5, 2, 4, 4, 4, 0, 2}, 8);
+        static const char *const ends[] = {"done", "stopped", "impossible"};
+        Desk desk(3, {1, 0, 5, OLIKUMPASHO_SOFT, 0, 2, 5, OLIKUMPASHO_SOFT, 2, 4, 4, OLIKUMPASHO_SOFT, 4, 0, 2, OLIKUMPASHO_SOFT}, 8);
         const auto found = desk.search(100);
         desk.decide(3);
-        std::printf("%s: weight %llu, reading %llu, %llu nodes\n", found[OLIKUMPASHO_FOUND_STATUS] == OLIKUMPASHO_DONE ? "done" : "stopped",
+        std::printf("%s: weight %llu, reading %llu, %llu nodes\n", ends[found[OLIKUMPASHO_FOUND_STATUS]],
                     static_cast<unsigned long long>(found[OLIKUMPASHO_FOUND_WEIGHT]), static_cast<unsigned long long>(found[OLIKUMPASHO_FOUND_READING]),
                     static_cast<unsigned long long>(found[OLIKUMPASHO_FOUND_NODES]));
         const auto losses = desk.bound();

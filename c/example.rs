@@ -4,7 +4,7 @@
 mod c {
     #[link(name = "olikumpasho", kind = "static")]
     extern "C" {
-        pub fn olikumpasho_weight_of(variables: u64, table: *const u64, words: usize, reading: u64, weight: *mut u64) -> u64;
+        pub fn olikumpasho_weight_of(variables: u64, table: *const u64, words: usize, reading: u64, weighed: *mut u64) -> u64;
         pub fn olikumpasho_load(variables: u64, table: *const u64, words: usize, capacity: u64, desk: *mut u64, desk_words: usize) -> u64;
         pub fn olikumpasho_well_formed(desk: *const u64, desk_words: usize) -> bool;
         pub fn olikumpasho_decide(desk: *mut u64, desk_words: usize, literal: i64) -> u64;
@@ -39,8 +39,15 @@ enum Bound {
     Groups = 1,
 }
 
+/// How a search ended.
+enum End {
+    Done,
+    Stopped,
+    Impossible,
+}
+
 struct Found {
-    done: bool,
+    end: End,
     best: Option<(u64, u64)>, // weight and reading
     nodes: u64,
 }
@@ -49,7 +56,7 @@ struct Desk(Vec<u64>);
 
 impl Desk {
     fn load(variables: u64, table: &[u64], capacity: u32) -> Result<Desk, Refused> {
-        let mut desk = vec![0; 8 + 3 * capacity as usize + 4096];
+        let mut desk = vec![0; 8 + 4 * capacity as usize + 4096];
         let answer = unsafe {
             c::olikumpasho_load(variables, table.as_ptr(), table.len(), capacity.into(), desk.as_mut_ptr(), desk.len())
         };
@@ -72,17 +79,27 @@ impl Desk {
         let mut found = [0; 5];
         told(unsafe { c::olikumpasho_search(self.0.as_ptr(), self.0.len(), by as u64, budget, found.as_mut_ptr()) })?;
         let best = if found[1] == 1 { Some((found[2], found[3])) } else { None };
-        Ok(Found { done: found[0] == 0, best, nodes: found[4] })
+        let end = match found[0] {
+            0 => End::Done,
+            1 => End::Stopped,
+            _ => End::Impossible,
+        };
+        Ok(Found { end, best, nodes: found[4] })
     }
 }
 
 fn hour() -> Result<(), Refused> {
     assert!(Desk::load(0, &[], 0)?.bound(Bound::Units)? == [0; 3]); // no variables and no rows
-    let mut desk = Desk::load(3, &[1, 0, 5, 0, 2, 5, 2, 4, 4, 4, 0, 2], 8)?;
+    let mut desk = Desk::load(3, &[1, 0, 5, 0, 0, 2, 5, 0, 2, 4, 4, 0, 4, 0, 2, 0], 8)?; // the last word of four is 1 for a hard row
     let found = desk.search(Bound::Units, 100)?;
     desk.decide(3)?;
     let (weight, reading) = found.best.expect("100 nodes are enough");
-    println!("{}: weight {}, reading {}, {} nodes", if found.done { "done" } else { "stopped" }, weight, reading, found.nodes);
+    let end = match found.end {
+        End::Done => "done",
+        End::Stopped => "stopped",
+        End::Impossible => "impossible",
+    };
+    println!("{}: weight {}, reading {}, {} nodes", end, weight, reading, found.nodes);
     let [_, lost, foreseen] = desk.bound(Bound::Units)?;
     println!("with 3 true, {lost} lost and {foreseen} foreseen");
     Ok(())

@@ -39,8 +39,8 @@ static void show(void)
         literals(now[0], now[1], ~(uint64_t)0, 11);
         if ((now[0] & truths) | (now[1] & decided & ~truths)) printf("%-11s", "satisfied");
         else literals(now[0], now[1], ~decided, 11);
-        if (row < before[OLIKUMPASHO_DESK_ROWS]) printf("%6" PRIu64 "%7" PRIu64 "\n", then[2], now[2]);
-        else printf("%6s%7" PRIu64 "\n", "new", now[2]);
+        if (row < before[OLIKUMPASHO_DESK_ROWS]) printf("%6" PRIu64 "%7" PRIu64 "\n", then[OLIKUMPASHO_ROW_WEIGHT], now[OLIKUMPASHO_ROW_WEIGHT]);
+        else printf("%6s%7" PRIu64 "\n", "new", now[OLIKUMPASHO_ROW_WEIGHT]);
     }
     printf("conceded%30" PRIu64 "%7" PRIu64 "\n", before[OLIKUMPASHO_DESK_CONCEDED], desk[OLIKUMPASHO_DESK_CONCEDED]);
     printf("words 0 to 7 ");
@@ -72,9 +72,9 @@ static void same_weights(void)
     }
 }
 
-static void load(uint64_t variables, const uint64_t *table, size_t words)
+static void load(uint64_t variables, const uint64_t *table, size_t rows)
 {
-    accepted(olikumpasho_load(variables, table, words, CAPACITY, desk, WORDS));
+    accepted(olikumpasho_load(variables, table, OLIKUMPASHO_TABLE_WORDS(rows), CAPACITY, desk, WORDS));
     memcpy(loaded, desk, sizeof desk);
 }
 
@@ -109,15 +109,15 @@ static void all_back(void)
 
 int main(void)
 {
-    /* a row is: mask of positive literals, mask of negative ones, weight */
-    const uint64_t p5[] = {1, 0, 3, 2, 0, 5, 0, 3, 2}, p6[] = {1, 0, 1, 2, 1, 1, 4, 1, 1, 0, 6, 1}, p7[] = {3, 0, 4, 2, 1, 1};
-    const uint64_t p8[] = {3, 0, 1, 0, 2, 1}, shifted[] = {1, 0, 3, 2, 1, 2}, twice[] = {1, 0, 2, 2, 1, 3, 4, 2, 2, 0, 4, 4};
+    /* a row is: mask of positive literals, mask of negative ones, weight, mark; all are soft, as rows that a rewriting names have to be */
+    const uint64_t p5[] = {1, 0, 3, 0, 2, 0, 5, 0, 0, 3, 2, 0}, p6[] = {1, 0, 1, 0, 2, 1, 1, 0, 4, 1, 1, 0, 0, 6, 1, 0}, p7[] = {3, 0, 4, 0, 2, 1, 1, 0};
+    const uint64_t p8[] = {3, 0, 1, 0, 0, 2, 1, 0}, shifted[] = {1, 0, 3, 0, 2, 1, 2, 0}, twice[] = {1, 0, 2, 0, 2, 1, 3, 0, 4, 2, 2, 0, 0, 4, 4, 0};
     const uint64_t two[] = {0, 1}, chain[] = {0, 2, 1}, four[] = {0, 1, 2, 3};
-    load(2, p8, 6), decide(-1), rewrite("merge", OLIKUMPASHO_MERGE, two, 2), all_back();
-    load(2, p7, 6), rewrite("merge", OLIKUMPASHO_MERGE, two, 2), all_back();
-    load(2, shifted, 6), rewrite("shift", OLIKUMPASHO_SHIFT, two, 2), all_back();
-    load(2, p5, 9), rewrite("chain", OLIKUMPASHO_CHAIN, chain, 3), all_back();
-    load(3, twice, 12), rewrite("chain", OLIKUMPASHO_CHAIN, four, 4), all_back();
-    load(3, p6, 12), rewrite("fork", OLIKUMPASHO_FORK, four, 4), all_back();
+    load(2, p8, 2), decide(-1), rewrite("merge", OLIKUMPASHO_MERGE, two, 2), all_back();
+    load(2, p7, 2), rewrite("merge", OLIKUMPASHO_MERGE, two, 2), all_back();
+    load(2, shifted, 2), rewrite("shift", OLIKUMPASHO_SHIFT, two, 2), all_back();
+    load(2, p5, 3), rewrite("chain", OLIKUMPASHO_CHAIN, chain, 3), all_back();
+    load(3, twice, 4), rewrite("chain", OLIKUMPASHO_CHAIN, four, 4), all_back();
+    load(3, p6, 4), rewrite("fork", OLIKUMPASHO_FORK, four, 4), all_back();
     return 0;
 }

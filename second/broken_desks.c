@@ -28,8 +28,17 @@ static void with_poked(struct run *r, const char *name, word index, word value, 
 static word weights_on_desk(struct run *r)
 {
     word all = 0;
-    for (word row = 0; row < lent_words(r)[IN_USE]; row++) all += lent_words(r)[row_word(row, 2)];
+    for (word row = 0; row < lent_words(r)[IN_USE]; row++) all += lent_words(r)[row_word(row, WEIGHT)];
     return all;
+}
+
+/* The last row in use that is soft, or as many as are in use. */
+static word last_soft(struct run *r)
+{
+    word in_use = lent_words(r)[IN_USE];
+    for (word row = in_use; row-- > 0;)
+        if (!is_hard(lent_words(r) + row_word(row, 0))) return row;
+    return in_use;
 }
 
 static void emit_rows_from(struct run *r, word kind, word first, word count)
@@ -55,6 +64,18 @@ static void spoil_named(struct run *r)
         with_poked(r, "entry, a row not below the first new", last_entry(r, ENTRY_ROWS + j), first, "back");
     word j = draw(c) % count, far = odd_word(c) | first;
     with_poked(r, "entry, a row not below the first new", last_entry(r, ENTRY_ROWS + j), far, "back");
+}
+
+/* One of the rows named is hard, and weighs nothing. */
+static void spoil_marks(struct run *r)
+{
+    word count = lent_words(r)[last_entry(r, ENTRY_COUNT)], which[] = {0, count - 1, draw(&r->chance) % count};
+    for (int i = 0; i < 3; i++) {
+        word row = lent_words(r)[last_entry(r, ENTRY_ROWS + which[i])], weight = lent_words(r)[row_word(row, WEIGHT)];
+        poke(r, row_word(row, WEIGHT), 0);
+        with_poked(r, which[i] == MOST_NAMED - 1 ? "entry, twelfth row hard" : "entry, a row hard", row_word(row, MARK), HARD, "back");
+        poke(r, row_word(row, WEIGHT), weight);
+    }
 }
 
 static void spoil_counts(struct run *r)
@@ -109,6 +130,7 @@ static void spoil_rewriting(struct run *r, bool conceded)
     with_poked(r, "entry, kind above 4", last_entry(r, ENTRY_KIND), 5, "back");
     with_poked(r, "entry, kind above 4", last_entry(r, ENTRY_KIND), odd_word(c) | 8, "back");
     spoil_named(r);
+    spoil_marks(r);
     spoil_counts(r);
     spoil_new_rows(r);
     spoil_weights(r, conceded);
@@ -191,17 +213,33 @@ static void unformed(struct run *r, const char *name, word index, word value)
 static void unformed_sums(struct run *r)
 {
     const word *d = lent_words(r);
-    word all = weights_on_desk(r), conceded = d[CONCEDED], last = d[IN_USE] - 1;
+    word all = weights_on_desk(r), conceded = d[CONCEDED], last = last_soft(r);
     with_poked(r, "(d) just kept", CONCEDED, MOST_WEIGHT - all, "wellformed");
     unformed(r, "(d) over by one", CONCEDED, MOST_WEIGHT - all + 1);
-    unformed(r, "(d) wraps", CONCEDED, ~(word)0 - all + 1);
-    unformed(r, "(d) over by one", row_word(last, 2), MOST_WEIGHT - all - conceded + d[row_word(last, 2)] + 1);
-    with_poked(r, "(d) just kept", row_word(last, 2), MOST_WEIGHT - all - conceded + d[row_word(last, 2)], "wellformed");
-    unformed(r, "(d) wraps", row_word(last, 2), ~(word)0 - all - conceded + d[row_word(last, 2)] + 1);
+    if (all > 0) unformed(r, "(d) wraps", CONCEDED, ~(word)0 - all + 1);
+    if (last == d[IN_USE]) return;
+    unformed(r, "(d) over by one", row_word(last, WEIGHT), MOST_WEIGHT - all - conceded + d[row_word(last, WEIGHT)] + 1);
+    with_poked(r, "(d) just kept", row_word(last, WEIGHT), MOST_WEIGHT - all - conceded + d[row_word(last, WEIGHT)], "wellformed");
+    word others = all + conceded - d[row_word(last, WEIGHT)];
+    if (others > 0) unformed(r, "(d) wraps", row_word(last, WEIGHT), ~(word)0 - others + 1);
 }
 
 /* The bit of one, the last as often as all others. */
 static word any_variable(struct chance *c, word variables) { return (word)1 << (one_in(c, 2) ? variables - 1 : draw(c) % variables); }
+
+/* Another fourth word than the two, and a hard row with a weight. */
+static void unformed_marks(struct run *r, word row)
+{
+    static const word marks[] = {2, 3, 255, 256, ((word)1 << 32) + 1, ((word)1 << 63), ~(word)0};
+    word weight = lent_words(r)[row_word(row, WEIGHT)];
+    unformed(r, "(c) a mark above 1", row_word(row, MARK), marks[draw(&r->chance) % 7]);
+    poke(r, row_word(row, WEIGHT), 0);
+    unformed(r, "(c) a mark above 1", row_word(row, MARK), 2);
+    with_poked(r, "a hard row of no weight", row_word(row, MARK), HARD, "wellformed");
+    poke(r, row_word(row, WEIGHT), weight == 0 ? 1 : weight);
+    unformed(r, "(c) a hard row with a weight", row_word(row, MARK), HARD);
+    poke(r, row_word(row, WEIGHT), weight);
+}
 
 static void unformed_rows(struct run *r)
 {
@@ -213,11 +251,14 @@ static void unformed_rows(struct run *r)
         poke(r, row_word(row, 0), positive | bit);
         unformed(r, "(c) both ways", row_word(row, 1), d[row_word(row, 1)] | bit);
         poke(r, row_word(row, 0), positive);
+        unformed_marks(r, row);
         if (d[VARIABLES] == MOST_VARIABLES) continue;
         unformed(r, "(c) above the count", row_word(row, draw(&r->chance) % 2), (word)1 << d[VARIABLES]);
         unformed(r, "(c) above the count", row_word(row, draw(&r->chance) % 2), (word)1 << 63);
     }
-    if (d[IN_USE] < d[CAPACITY]) with_poked(r, "a row not in use is not looked at", row_word(d[IN_USE], 2), ~(word)0, "wellformed");
+    if (d[IN_USE] == d[CAPACITY]) return;
+    with_poked(r, "a row not in use is not looked at", row_word(d[IN_USE], WEIGHT), ~(word)0, "wellformed");
+    with_poked(r, "a row not in use is not looked at", row_word(d[IN_USE], MARK), 2, "wellformed");
 }
 
 static void unformed_masks(struct run *r)
@@ -270,6 +311,7 @@ static void run_unformed(struct run *r)
     struct chance *c = &r->chance;
     struct draft d = {.variables = one_in(c, 3) ? (word)MOST_VARIABLES : between(c, 2, 63)};
     add_mixed_rows(c, &d, one_in(c, 9) ? (word)MOST_LOADED : between(c, 2, 30), 9);
+    harden(c, &d);
     word spare = one_in(c, 2) ? 0 : one_in(c, 2) ? (word)MOST_CAPACITY : between(c, 0, 9), past = one_in(c, 2) ? 0 : 5;
     start_desk(r, &d, spare, past);
     if (one_in(c, 2)) call_many(r, 6);

@@ -34,6 +34,11 @@ static void add_row(struct draft *d, struct clause c, word weight)
     if (d->rows < MOST_DRAFTED) put_clause(d->words + ROW_WORDS * d->rows++, &c, weight);
 }
 
+static void add_hard(struct draft *d, struct clause c)
+{
+    if (d->rows < MOST_DRAFTED) put_hard(d->words + ROW_WORDS * d->rows++, &c);
+}
+
 static struct clause unit_row(int a) { return (struct clause){1, {(signed char)a}}; }
 static struct clause pair_row(int a, int b) { return (struct clause){2, {(signed char)a, (signed char)b}}; }
 
@@ -120,28 +125,40 @@ static void add_fork(struct chance *c, struct draft *d, word k, word most)
     add_row(d, pair_row(-b, -e), between(c, 1, most));
 }
 
-/* Changes one weight so that the sum is the limit plus `over`, if that leaves it 1 at least. */
+/* Changes the first soft row's weight so that the sum is the limit plus `over`, if that leaves it 1 at least. */
 static void bring_sum_to_limit(struct draft *d, word over)
 {
-    word all = 0;
-    if (d->rows == 0) return;
-    for (word r = 1; r < d->rows; r++) all += d->words[ROW_WORDS * r + 2];
-    if (all < MOST_WEIGHT + over) d->words[2] = MOST_WEIGHT + over - all;
+    word all = 0, soft = 0;
+    while (soft < d->rows && is_hard(d->words + ROW_WORDS * soft)) soft++;
+    if (soft == d->rows) return;
+    for (word r = soft + 1; r < d->rows; r++) all += d->words[ROW_WORDS * r + WEIGHT];
+    if (all < MOST_WEIGHT + over) d->words[ROW_WORDS * soft + WEIGHT] = MOST_WEIGHT + over - all;
 }
 
-/* The table whose text is longest: every literal negative, as many digits as the sum of the weights allows, and that sum at its limit, so
-   that the top of its competition file is as long as one can be. */
-static void draft_longest(struct draft *d)
+static struct clause all_negative(void)
 {
     struct clause all = {0};
+    for (int v = 1; v <= MOST_VARIABLES; v++) all.literals[all.count++] = (signed char)-v;
+    return all;
+}
+
+/* The table whose text is longest: every literal negative, and as many digits as the sum of the weights allows. A hard row has one alone. */
+static void draft_longest(struct draft *d)
+{
     word weight = 1;
     *d = (struct draft){.variables = MOST_VARIABLES};
-    for (int v = 1; v <= MOST_VARIABLES; v++) all.literals[all.count++] = (signed char)-v;
     while (10 * weight * MOST_LOADED <= MOST_WEIGHT) weight *= 10;
-    word spare = MOST_WEIGHT - weight * MOST_LOADED, longer = spare / (9 * weight);
-    for (word r = 0; r < MOST_LOADED; r++) add_row(d, all, r < longer ? 10 * weight : weight);
-    d->words[ROW_WORDS * d->rows - 1] += spare % (9 * weight);
+    word longer = (MOST_WEIGHT - weight * MOST_LOADED) / (9 * weight);
+    for (word r = 0; r < MOST_LOADED; r++) add_row(d, all_negative(), r < longer ? 10 * weight : weight);
+}
+
+/* That whose competition file is longest: one row has the largest weight, so that top is as long, and all others are hard, and have it. */
+static void draft_longest_file(struct draft *d)
+{
+    *d = (struct draft){.variables = MOST_VARIABLES};
+    add_row(d, all_negative(), MOST_WEIGHT);
+    while (d->rows < MOST_LOADED) add_hard(d, all_negative());
 }
 
 /* Bytes that hold the text of so many rows, whatever they are, and their competition file too. */
-static word text_room(word rows) { return 40 + 270 * rows; }
+static word text_room(word rows) { return 40 + 280 * rows; }

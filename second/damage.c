@@ -22,6 +22,13 @@ static const struct damage number_damages[] = {
     {"none", "K=none"},           {"remark", "K=N # N"},          {"high-bit", "K=\xb1"},
 };
 
+/* Beside those of any number. */
+static const struct damage mark_damages[] = {
+    {"two", "hard=2"},            {"ten", "hard=10"},             {"wraps-8", "hard=256"},
+    {"wraps-32", "hard=4294967297"}, {"wraps-64", "hard=18446744073709551616"}, {"ten-digits", "hard=9999999999"},
+    {"true", "hard=true"},        {"soft", "soft=1"},             {"weight-again", "weight=0"},
+};
+
 static const struct damage literal_damages[] = {
     {"two-spaces", "lits=1  2"},  {"space-after", "lits=1 2 "},   {"space-before", "lits= 1 2"},
     {"space-alone", "lits= "},    {"comma", "lits=1,2"},          {"tab", "lits=1\t2"},
@@ -42,14 +49,16 @@ static const char *const whole_damages[] = {
     "row-too-many",   "row-too-few",   "count-too-high",  "last-line-open", "cut-at-line",   "cut-in-line",
     "cut-before-end", "all-returns",   "byte-order-mark", "heads-swapped",  "row-swapped",   "line-dropped",
     "text-twice",     "heads-only",    "first-line-only", "blank-at-start", "half-row-more", "lines-swapped",
-    "cut-after-heads",
+    "cut-after-heads", "mark-missing", "mark-after-lits", "mark-before-weight", "no-marks",
 };
 
 enum {
     NUMBER_DAMAGES = sizeof number_damages / sizeof *number_damages,
+    MARK_DAMAGES = sizeof mark_damages / sizeof *mark_damages,
     LITERAL_DAMAGES = sizeof literal_damages / sizeof *literal_damages,
     WHOLE_DAMAGES = sizeof whole_damages / sizeof *whole_damages,
-    DAMAGES = 4 * NUMBER_DAMAGES + LITERAL_DAMAGES + WHOLE_DAMAGES
+    NUMBERED_LINES = HEADS + 2, /* and a row's weight and mark */
+    DAMAGES = NUMBERED_LINES * NUMBER_DAMAGES + MARK_DAMAGES + LITERAL_DAMAGES + WHOLE_DAMAGES
 };
 
 /* Fills a template from the line it replaces. */
@@ -116,32 +125,43 @@ static void damage_end(const char *name, struct lines *l)
     else if (strcmp(name, "byte-at-end") == 0) strcpy(l->tail, "x");
     else if (strcmp(name, "space-at-end") == 0) strcpy(l->tail, " ");
     else if (strcmp(name, "nul-at-end") == 0) strcpy(l->tail, "\1");
-    else if (strcmp(name, "row-too-many") == 0) strcpy(l->tail, "weight=1\nlits=\n");
+    else if (strcmp(name, "row-too-many") == 0) strcpy(l->tail, "weight=1\nhard=0\nlits=\n");
     else if (strcmp(name, "half-row-more") == 0) strcpy(l->tail, "weight=1\n");
-    else if (strcmp(name, "row-too-few") == 0) l->count -= 2;
+    else if (strcmp(name, "row-too-few") == 0) l->count -= ROW_LINES;
     else if (strcmp(name, "count-too-high") == 0) sprintf(l->text[2], "rows=%d", MOST_INPUT_ROWS);
     else if (strcmp(name, "last-line-open") == 0) cut(l, l->count - 1, strlen(l->text[l->count - 1]));
 }
 
+/* In one row, which begins on this line, or in all. */
+static void damage_marks(const char *name, struct lines *l, int row)
+{
+    if (strcmp(name, "mark-missing") == 0) drop_line(l, row + MARK_LINE);
+    else if (strcmp(name, "mark-after-lits") == 0) swap_lines(l, row + MARK_LINE, row + LITERALS_LINE);
+    else if (strcmp(name, "mark-before-weight") == 0) swap_lines(l, row, row + MARK_LINE);
+    else
+        for (int at = row_line(0) + MARK_LINE; at < l->count; at += ROW_LINES - 1) drop_line(l, at);
+}
+
 static void damage_whole(struct chance *c, const char *name, struct lines *l)
 {
-    int line = (int)(draw(c) % (word)l->count), row = 3 + 2 * (int)(draw(c) % (word)((l->count - 3) / 2));
+    int line = (int)(draw(c) % (word)l->count), row = row_line(draw(c) % (word)((l->count - HEADS) / ROW_LINES));
     if (strcmp(name, "empty-text") == 0) l->count = 0;
     else if (strcmp(name, "one-line-end") == 0) l->count = 1, l->text[0][0] = 0;
     else if (strcmp(name, "cut-at-line") == 0) l->count = line;
     else if (strcmp(name, "cut-in-line") == 0) cut(l, line, draw(c) % (strlen(l->text[line]) + 1));
     else if (strcmp(name, "cut-before-end") == 0) cut(l, line, strlen(l->text[line]));
-    else if (strcmp(name, "cut-after-heads") == 0) cut(l, 3, 0);
+    else if (strcmp(name, "cut-after-heads") == 0) cut(l, HEADS, 0);
     else if (strcmp(name, "all-returns") == 0) end_all_in_returns(l);
     else if (strcmp(name, "byte-order-mark") == 0) strcpy(l->text[0], "\xef\xbb\xbfvars=3");
     else if (strcmp(name, "heads-swapped") == 0) swap_lines(l, line % 3, (line + 1) % 3);
-    else if (strcmp(name, "row-swapped") == 0) swap_lines(l, row, row + 1);
+    else if (strcmp(name, "row-swapped") == 0) swap_lines(l, row, row + LITERALS_LINE);
     else if (strcmp(name, "line-dropped") == 0) drop_line(l, line);
     else if (strcmp(name, "text-twice") == 0) write_twice(l);
-    else if (strcmp(name, "heads-only") == 0) l->count = 3;
+    else if (strcmp(name, "heads-only") == 0) l->count = HEADS;
     else if (strcmp(name, "first-line-only") == 0) l->count = 1;
     else if (strcmp(name, "blank-at-start") == 0) insert_line(l, 0, "");
     else if (strcmp(name, "lines-swapped") == 0) swap_lines(l, line, line == row ? row + 1 : row);
+    else if (strncmp(name, "mark-", 5) == 0 || strcmp(name, "no-marks") == 0) damage_marks(name, l, row);
     else damage_end(name, l);
 }
 
@@ -149,23 +169,30 @@ static void damage_whole(struct chance *c, const char *name, struct lines *l)
    added, to be met before or after the damage. */
 static void damage_text(struct chance *c, int turn, struct lines *l, char *kind)
 {
-    static const char *const heads[] = {"vars", "budget", "rows", "weight"};
+    static const char *const keys[NUMBERED_LINES] = {"vars", "budget", "rows", "weight", "hard"};
     struct draft d = {.variables = between(c, 2, 6)};
     add_mixed_rows(c, &d, between(c, 1, 7), 9);
+    harden(c, &d);
     lines_of(l, &d, between(c, 0, 200));
-    int number = turn % DAMAGES, row = 3 + 2 * (int)(draw(c) % d.rows);
+    int number = turn % DAMAGES, row = row_line(draw(c) % d.rows), line = number % NUMBERED_LINES;
     if (one_in(c, 6)) strcpy(l->text[0], "vars=65");
-    if (number < 4 * NUMBER_DAMAGES) {
-        const struct damage *n = &number_damages[number / 4];
-        if (number % 4 < 2) lines_of(l, &d, 100);
-        fill_template(l->text[number % 4 < 3 ? number % 4 : row], n->template);
-        sprintf(kind, "damage-%s-%s", heads[number % 4], n->name);
-    } else if (number < 4 * NUMBER_DAMAGES + LITERAL_DAMAGES) {
-        const struct damage *n = &literal_damages[number - 4 * NUMBER_DAMAGES];
-        strcpy(l->text[row + 1], n->template);
+    if (number < NUMBERED_LINES * NUMBER_DAMAGES) {
+        const struct damage *n = &number_damages[number / NUMBERED_LINES];
+        if (line < 2) lines_of(l, &d, 100);
+        fill_template(l->text[line < HEADS ? line : row + line - HEADS], n->template);
+        sprintf(kind, "damage-%s-%s", keys[line], n->name);
+        return;
+    }
+    number -= NUMBERED_LINES * NUMBER_DAMAGES;
+    if (number < MARK_DAMAGES) {
+        strcpy(l->text[row + MARK_LINE], mark_damages[number].template);
+        sprintf(kind, "damage-hard-%s", mark_damages[number].name);
+    } else if (number < MARK_DAMAGES + LITERAL_DAMAGES) {
+        const struct damage *n = &literal_damages[number - MARK_DAMAGES];
+        strcpy(l->text[row + LITERALS_LINE], n->template);
         sprintf(kind, "damage-lits-%s", n->name);
     } else {
-        const char *name = whole_damages[number - 4 * NUMBER_DAMAGES - LITERAL_DAMAGES];
+        const char *name = whole_damages[number - MARK_DAMAGES - LITERAL_DAMAGES];
         damage_whole(c, name, l);
         sprintf(kind, "damage-%s", name);
     }

@@ -1,5 +1,5 @@
 /* Part of runs.c: finds rows of a desk that fit a rewriting, by chance. It looks at remnants as masks, which the model
-   does not, and leaves the judgement to the model. */
+   does not, and leaves the judgement to the model. Hard rows are looked at as if they could be named, now and then, as near misses. */
 
 struct view {
     word rows;
@@ -15,7 +15,7 @@ static int ones(word mask)
     return count;
 }
 
-static void view_desk(struct view *v, const word *desk)
+static void view_desk(struct view *v, const word *desk, bool with_hard)
 {
     v->rows = desk[IN_USE];
     for (word r = 0; r < v->rows; r++) {
@@ -23,7 +23,8 @@ static void view_desk(struct view *v, const word *desk)
         bool satisfied = (row[0] & desk[DECIDED_TRUE]) != 0 || (row[1] & desk[DECIDED] & ~desk[DECIDED_TRUE]) != 0;
         v->positive[r] = row[0] & ~desk[DECIDED];
         v->negative[r] = row[1] & ~desk[DECIDED];
-        v->literals[r] = satisfied || row[2] == 0 ? -1 : ones(v->positive[r]) + ones(v->negative[r]);
+        bool spent = row[WEIGHT] == 0 && !(with_hard && is_hard(row));
+        v->literals[r] = satisfied || spent ? -1 : ones(v->positive[r]) + ones(v->negative[r]);
         v->named[r] = false;
     }
 }
@@ -119,8 +120,9 @@ static bool find_once(struct view *v, struct chance *c, word kind, word *named, 
 static bool find_fitting(const word *desk, struct chance *c, word kind, word *named, word *count)
 {
     static struct view v;
+    bool with_hard = one_in(c, 6);
     for (int tries = 0; tries < 12; tries++) {
-        view_desk(&v, desk);
+        view_desk(&v, desk, with_hard);
         *count = 0;
         if (find_once(&v, c, kind, named, count)) return true;
     }

@@ -16,7 +16,7 @@ static word add_spring(struct chance *c, struct draft *d, word times)
 {
     word first = d->rows;
     add_fork(c, d, MOST_LINKS, 3);
-    for (word i = 1; i < MOST_NAMED; i++) d->words[ROW_WORDS * (first + i) + 2] = 3 * times;
+    for (word i = 1; i < MOST_NAMED; i++) d->words[ROW_WORDS * (first + i) + WEIGHT] = 3 * times;
     for (word i = 1; i < times; i++) add_row(d, clause_of(d->words + ROW_WORDS * first), between(c, 1, 3));
     return first;
 }
@@ -57,6 +57,7 @@ static void full_desk_draft(struct chance *c, struct draft *d, word forks)
     while (d->rows < NOT_ONE) {
         word length = between(c, 0, 3), weight = between(c, 1, 9);
         add_row(d, draw_clause(c, d->variables, length), weight);
+        if (length > 0 && one_in(c, 9)) make_hard(d, d->rows - 1);
     }
     add_row(d, unit_row(-1), 4);
     add_row(d, unit_row(-2), 4);

@@ -10,6 +10,7 @@ static void full_draft(struct chance *c, struct draft *d, word rows)
         word length = one_in(c, 4) ? between(c, 5, d->variables) : between(c, 0, 4), weight = between(c, 1, 1000);
         add_row(d, draw_clause(c, d->variables, length), weight);
     }
+    if (rows > 1) harden(c, d);
 }
 
 static void call_table(struct run *r, const struct draft *d, const char *name)
@@ -24,6 +25,39 @@ static void call_table(struct run *r, const struct draft *d, const char *name)
     emit(r, "write %" PRIu64 " %" PRIu64 " %" PRIu64 " 170", d->variables, budget, text_room(d->rows));
     meets(r, name);
     emit(r, "load %" PRIu64 " %" PRIu64, d->variables, d->rows > MOST_LOADED ? (word)MOST_CAPACITY : between(c, d->rows, MOST_CAPACITY));
+}
+
+/* A mark above 1, with a weight and without, and a hard row with one. */
+static void run_bad_marks(struct run *r, const struct draft *d, struct draft *bad)
+{
+    struct chance *c = &r->chance;
+    word row = one_in(c, 2) ? (word)MOST_LOADED - 1 : draw(c) % MOST_LOADED, *words = bad->words + ROW_WORDS * row;
+    *bad = *d;
+    words[MARK] = one_in(c, 2) ? 2 : odd_word(c) | 2;
+    emit_table(r, bad->words, ROW_WORDS * bad->rows);
+    call_table(r, bad, "a bad mark");
+    words[MARK] = HARD;
+    words[WEIGHT] = one_in(c, 2) ? 1 : (word)MOST_WEIGHT;
+    emit_table(r, bad->words, ROW_WORDS * bad->rows);
+    call_table(r, bad, "a hard row with a weight");
+}
+
+/* Of all rows the last alone is hard: it has no literals, or one that the reading breaks and the walk meets first. */
+static void run_last_hard(struct run *r, const struct draft *d, struct draft *last)
+{
+    struct chance *c = &r->chance;
+    int literal = one_in(c, 2) ? 1 : -1;
+    struct clause hard = one_in(c, 2) ? unit_row(literal) : (struct clause){0};
+    *last = *d;
+    for (word row = 0; row < MOST_LOADED; row++)
+        if (is_hard(last->words + ROW_WORDS * row)) last->words[ROW_WORDS * row + WEIGHT] = 1, last->words[ROW_WORDS * row + MARK] = SOFT;
+    put_hard(last->words + ROW_WORDS * (MOST_LOADED - 1), &hard);
+    emit_table(r, last->words, ROW_WORDS * last->rows);
+    call_table(r, last, "the last row hard");
+    meets(r, "the last row hard, and broken");
+    emit(r, "weight %" PRIu64 " %d", last->variables, literal > 0 ? 0 : 1);
+    meets(r, "the last row hard, and broken");
+    emit_searches(r, between(c, 1, 4));
 }
 
 static void run_full_table(struct run *r)
@@ -47,7 +81,9 @@ static void run_full_table(struct run *r)
     meets(r, "C over its most");
     emit(r, "load %" PRIu64 " %d", d.variables, MOST_CAPACITY + 1);
     emit_table(r, d.words, ROW_WORDS * d.rows - 1);
-    call_table(r, &d, "not a multiple of 3");
+    call_table(r, &d, "not a multiple of 4");
+    emit_table(r, d.words, ROW_WORDS * d.rows - 2);
+    call_table(r, &d, "not a multiple of 4");
     bad = d;
     full_draft(c, &bad, 1);
     emit_table(r, bad.words, ROW_WORDS * bad.rows);
@@ -55,14 +91,17 @@ static void run_full_table(struct run *r)
     bad = d;
     word row = one_in(c, 2) ? (word)MOST_LOADED - 1 : draw(c) % MOST_LOADED, bit = any_variable(c, d.variables);
     bad.words[ROW_WORDS * row] |= bit, bad.words[ROW_WORDS * row + 1] |= bit;
-    if (one_in(c, 2)) bad.words[ROW_WORDS * row + 2] = 0;
+    if (one_in(c, 2)) bad.words[ROW_WORDS * row + WEIGHT] = 0;
     emit_table(r, bad.words, ROW_WORDS * bad.rows);
     call_table(r, &bad, "a row both ways");
     bad = d;
     row = one_in(c, 2) ? (word)MOST_LOADED - 1 : draw(c) % MOST_LOADED;
-    bad.words[ROW_WORDS * row + 2] = one_in(c, 2) ? 0 : (word)MOST_WEIGHT + 1;
+    bad.words[ROW_WORDS * row + WEIGHT] = one_in(c, 2) ? 0 : (word)MOST_WEIGHT + 1;
+    bad.words[ROW_WORDS * row + MARK] = SOFT;
     emit_table(r, bad.words, ROW_WORDS * bad.rows);
     call_table(r, &bad, "a bad weight");
+    run_bad_marks(r, &d, &bad);
+    run_last_hard(r, &d, &bad);
 }
 
 /* Weights whose sum first passes the limit in a given row, and those that just reach it there. */
@@ -74,20 +113,20 @@ static void run_sums(struct run *r)
     static struct draft d;
     d = (struct draft){.variables = between(c, 1, MOST_VARIABLES)};
     add_mixed_rows(c, &d, rows, MOST_WEIGHT / MOST_LOADED - 1);
-    for (word i = 0; i < place; i++) all += d.words[ROW_WORDS * i + 2];
-    for (word i = place + 1; i < rows; i++) all += d.words[ROW_WORDS * i + 2] = 1;
+    for (word i = 0; i < place; i++) all += d.words[ROW_WORDS * i + WEIGHT];
+    for (word i = place + 1; i < rows; i++) all += d.words[ROW_WORDS * i + WEIGHT] = 1;
     emit(r, "lend %d 5", MOST_DESK);
     for (word over = 0; over < 3; over++) {
-        d.words[ROW_WORDS * place + 2] = MOST_WEIGHT + over - all;
+        d.words[ROW_WORDS * place + WEIGHT] = MOST_WEIGHT + over - all;
         emit_table(r, d.words, ROW_WORDS * rows);
         call_table(r, &d, over == 0 ? "sum at the limit" : "sum over the limit");
     }
     if (place == 11) {
-        d.words[ROW_WORDS * place + 2] = MOST_WEIGHT + 1 - (all - (rows - place - 1));
+        d.words[ROW_WORDS * place + WEIGHT] = MOST_WEIGHT + 1 - (all - (rows - place - 1));
         emit_table(r, d.words, ROW_WORDS * rows);
         call_table(r, &d, "sum over the limit in the twelfth row");
     }
-    d.words[2] = MOST_WEIGHT;
+    d.words[WEIGHT] = MOST_WEIGHT;
     emit_table(r, d.words, ROW_WORDS);
     call_table(r, &(struct draft){.variables = d.variables, .rows = 1}, "one row of the largest weight");
 }
@@ -100,13 +139,14 @@ static void run_sums(struct run *r)
 static void spoil_one_row(struct run *r, word kind, word first, word count, word i)
 {
     static const char *const names[] = {"a named row spent", "a named row that does not fit", "a named row satisfied",
-                                        "a named row with its signs turned"};
-    word row = first + i, index = row_word(row, 0), before[ROW_WORDS], how = draw(&r->chance) % 4;
+                                        "a named row with its signs turned", "a named row hard"};
+    word row = first + i, index = row_word(row, 0), before[ROW_WORDS], how = draw(&r->chance) % 5;
     for (word j = 0; j < ROW_WORDS; j++) before[j] = lent_words(r)[index + j];
     word free_bit = (word)1 << 63; /* a variable of no named row, decided true where need be */
-    if (how == 0) poke(r, index + 2, 0);
+    if (how == 0 || how == 4) poke(r, index + WEIGHT, 0);
+    if (how == 4) poke(r, index + MARK, HARD);
     else if (how == 3) poke(r, index, before[1]), poke(r, index + 1, before[0]);
-    else poke(r, index, before[0] | free_bit);
+    else if (how > 0) poke(r, index, before[0] | free_bit);
     if (how == 2) emit(r, "decide 64");
     meets(r, names[how]);
     emit_rows_from(r, kind, first, count);
@@ -213,6 +253,7 @@ static void run_all_variables(struct run *r)
         add_row(&d, unit_row(-v), between(c, 1, 99));
     }
     add_random_rows(c, &d, 30, between(c, 2, 4), 9);
+    for (word hard = one_in(c, 2) ? between(c, 1, 9) : 0; hard > 0; hard--) make_hard(&d, d.rows - hard);
     start_desk(r, &d, between(c, 0, 9), 0);
     int turn = (int)(draw(c) % 64);
     for (int i = 0; i < MOST_VARIABLES; i++) {
@@ -237,6 +278,7 @@ static void draft_for_room(struct chance *c, struct draft *d)
 {
     *d = (struct draft){0};
     if (one_in(c, 12)) draft_longest(d);
+    else if (one_in(c, 12)) draft_longest_file(d);
     else if (one_in(c, 2)) full_draft(c, d, one_in(c, 3) ? (word)MOST_LOADED : one_in(c, 3) ? (word)MOST_INPUT_ROWS : between(c, 0, 40));
     else draft_for_steps(c, d, between(c, 0, 9), 900);
 }
@@ -288,7 +330,7 @@ static void run_room(struct run *r)
     emit(r, "answer %zu 85", answered);
     meets(r, "a byte short of room");
     emit(r, "answer %zu 85", answered - 1);
-    emit(r, "answer 883 85");
+    emit(r, "answer %d 85", MOST_ANSWER);
     draft_long_answer(c, &d);
     lines_of(&l, &d, one_in(c, 2) ? 100000 : 4300);
     emit_text(r, &l);

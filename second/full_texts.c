@@ -22,13 +22,17 @@ static void draft_many(struct chance *c, struct draft *d, word rows)
         word length = between(c, 0, 4), weight = between(c, 1, 999);
         add_row(d, draw_clause(c, d->variables, length), weight);
     }
+    harden(c, d);
 }
 
-/* Rows of three literals that clash: thousands of nodes. */
+/* Rows of three literals that clash: thousands of nodes. Where all are hard, as many to find that it is impossible. */
 static void draft_long_search(struct chance *c, struct draft *d)
 {
     *d = (struct draft){.variables = between(c, 17, 21)};
     add_random_rows(c, d, 7 * d->variables, 3, 2);
+    if (!one_in(c, 3)) return;
+    word hard = one_in(c, 4) ? between(c, 1, d->rows) : d->rows;
+    for (word row = 0; row < hard; row++) make_hard(d, row);
 }
 
 static void text_long_answer(struct chance *c, struct lines *l)
@@ -42,9 +46,11 @@ static void text_long_answer(struct chance *c, struct lines *l)
 /* One of the last five rows is broken. */
 static void damage_late(struct chance *c, struct lines *l)
 {
-    int row = l->count - 2 * (int)between(c, 1, 5);
-    if (one_in(c, 2)) fill_template(l->text[row], number_damages[draw(c) % NUMBER_DAMAGES].template);
-    else strcpy(l->text[row + 1], literal_damages[draw(c) % LITERAL_DAMAGES].template);
+    int row = l->count - ROW_LINES * (int)between(c, 1, 5);
+    int numbered = row + (one_in(c, 3) ? MARK_LINE : 0);
+    if (one_in(c, 2)) fill_template(l->text[numbered], number_damages[draw(c) % NUMBER_DAMAGES].template);
+    else if (one_in(c, 3)) strcpy(l->text[row + MARK_LINE], mark_damages[draw(c) % MARK_DAMAGES].template);
+    else strcpy(l->text[row + LITERALS_LINE], literal_damages[draw(c) % LITERAL_DAMAGES].template);
 }
 
 static void text_late_damage(struct chance *c, struct lines *l)
@@ -96,16 +102,19 @@ static void text_bad_row(struct chance *c, struct lines *l)
     static struct draft d;
     draft_many(c, &d, one_in(c, 4) ? between(c, 12, 40) : (word)MOST_INPUT_ROWS);
     word places[] = {0, 11, d.rows - 1, d.rows - 1, draw(c) % d.rows}, place = places[draw(c) % 5], all = 0;
-    for (word i = 0; i < d.rows; i++) all += i == place ? 0 : d.words[ROW_WORDS * i + 2];
-    word *row = d.words + ROW_WORDS * place, how = draw(c) % 4;
-    if (how == 0) row[2] = one_in(c, 2) ? 0 : (word)MOST_WEIGHT + 1;
-    if (how == 1) row[2] = MOST_WEIGHT - all;
-    if (how == 2) row[2] = MOST_WEIGHT - all + 1;
+    for (word i = 0; i < d.rows; i++) all += i == place ? 0 : d.words[ROW_WORDS * i + WEIGHT];
+    word *row = d.words + ROW_WORDS * place, how = draw(c) % 5;
+    row[MARK] = how == 4 ? HARD : SOFT;
+    if (how == 0) row[WEIGHT] = one_in(c, 2) ? 0 : (word)MOST_WEIGHT + 1;
+    if (how == 1) row[WEIGHT] = MOST_WEIGHT - all;
+    if (how == 2) row[WEIGHT] = MOST_WEIGHT - all + 1;
     if (how == 3) {
         if (d.variables == MOST_VARIABLES) d.variables = 63;
         word above = (word)1 << (one_in(c, 2) ? 63 : d.variables);
         row[draw(c) % 2] |= above;
+        if (row[WEIGHT] == 0) row[WEIGHT] = 1;
     }
+    if (how == 4) row[WEIGHT] = one_in(c, 2) ? 1 : (word)MOST_WEIGHT;
     lines_of(l, &d, between(c, 0, 9));
 }
 
@@ -119,6 +128,7 @@ static void text_all_literals(struct chance *c, struct lines *l)
         add_row(&d, unit_row(-v), between(c, 1, 99));
     }
     add_random_rows(c, &d, 9, between(c, 2, 40), 9);
+    harden(c, &d);
     lines_of(l, &d, between(c, 0, 300));
 }
 

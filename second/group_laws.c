@@ -85,7 +85,7 @@ static void check_groups(struct tally *t, struct lent d, word foreseen, struct g
 {
     static struct group groups[MOST_CAPACITY + 1];
     word left[MOST_CAPACITY], sum = 0;
-    for (word r = 0; r < d.words[IN_USE]; r++) left[r] = desk_row(d.words, r)[2];
+    for (word r = 0; r < d.words[IN_USE]; r++) left[r] = desk_row(d.words, r)[WEIGHT];
     int count = groups_found(d.words, groups, MOST_CAPACITY + 1);
     check(t, (word)count <= d.words[IN_USE], "no more groups than rows in use");
     for (int i = 0; i < count; i++) {
@@ -106,9 +106,9 @@ static void check_bound_law(struct tally *t, struct lent d, struct groups_met *m
     word weight, reading;
     bound(d, UNITS, &units);
     bound(d, GROUPS, &groups);
-    least_by_enumeration(d.words, &weight, &reading);
+    bool any = least_by_enumeration(d.words, &weight, &reading);
     word by_units = units.conceded + units.lost + units.foreseen, by_groups = groups.conceded + groups.lost + groups.foreseen;
-    check(t, by_groups <= weight, "no more than the least weight of a reading below the node");
+    check(t, !any || by_groups <= weight, "no more than the least weight of a reading below the node");
     check(t, by_groups >= by_units, "no less than document 01's bound");
     check(t, groups.conceded == units.conceded && groups.lost == units.lost, "conceded and lost are the same");
     check_groups(t, d, groups.foreseen, met);
@@ -131,13 +131,13 @@ static void check_walk_law(struct tally *t, struct chance *c, struct lent d, str
     word choice = one_in(c, 3) ? (word)GROUPS : between(c, 1, ~(word)0 - 1);
     search(d, UNITS, MOST_BUDGET, &units);
     search(d, choice, MOST_BUDGET, &groups);
-    check(t, groups.done && groups.kept && groups.weight == units.weight, "the same least weight");
+    check(t, groups.done && groups.kept == units.kept && groups.weight == units.weight, "the same least weight");
     check(t, groups.reading == units.reading, "the same first reading");
-    check(t, groups.nodes <= units.nodes, "no more nodes");
+    check(t, groups.kept ? groups.nodes <= units.nodes : groups.nodes == units.nodes, "no more nodes, and as many where it is impossible");
     if (groups.nodes < units.nodes) met->fewer++;
     uint32_t budget = (uint32_t)between(c, 0, groups.nodes - 1);
     search(d, choice, budget, &stopped);
-    check(t, !stopped.done && stopped.nodes == budget && (!stopped.kept || stopped.weight >= groups.weight), "a smaller budget stops");
+    check(t, !stopped.done && stopped.nodes == budget && (!stopped.kept || (groups.kept && stopped.weight >= groups.weight)), "a smaller budget stops");
     check(t, !stopped.kept || desk_weight(d.words, stopped.reading) == stopped.weight, "a stopped reading weighs what is said");
     search(d, choice, (uint32_t)groups.nodes, &stopped);
     check(t, stopped.done && stopped.nodes == groups.nodes, "the full count is enough");
@@ -148,6 +148,7 @@ static void draft_for_groups(struct chance *c, struct draft *d)
     word most = between(c, 1, 9);
     draft_for_steps(c, d, between(c, 0, 7), most);
     if (one_in(c, 3)) add_random_rows(c, d, between(c, 1, 20), between(c, 1, 3), most);
+    if (d->rows > 0 && one_in(c, 9)) make_hard(d, draw(c) % d->rows);
 }
 
 static void check_grouped_tables(struct tally *t, struct chance *c, struct groups_met *met)

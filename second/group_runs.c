@@ -17,6 +17,7 @@ static void run_few(struct run *r)
     for (word i = between(c, 0, 3); i > 0; i--) add_links(c, &d, between(c, 0, 5), most);
     add_random_rows(c, &d, between(c, 0, 16), 2, most);
     add_random_rows(c, &d, between(c, 0, 8), 3, most);
+    harden(c, &d);
     start_desk(r, &d, 20, 0);
     emit_both(r, MOST_BUDGET);
     for (int i = 0; i < 6; i++) {
@@ -38,14 +39,7 @@ static void draw_order(struct chance *c, int *literals, int count)
 
 static void shuffle_rows(struct chance *c, struct draft *d)
 {
-    for (word i = d->rows; i-- > 1;) {
-        word j = draw(c) % (i + 1);
-        for (int k = 0; k < ROW_WORDS; k++) {
-            word held = d->words[ROW_WORDS * i + k];
-            d->words[ROW_WORDS * i + k] = d->words[ROW_WORDS * j + k];
-            d->words[ROW_WORDS * j + k] = held;
-        }
-    }
+    for (word i = d->rows; i-- > 1;) swap_rows(d, i, draw(c) % (i + 1));
 }
 
 /* A chain through all variables, up to 64 of them: a group of one row more than they are. */
@@ -59,6 +53,7 @@ static void run_through_all(struct run *r)
     for (int i = 1; i < count; i++) add_row(&d, pair_row(-order[i - 1], order[i]), between(c, 1, 9));
     add_row(&d, unit_row(-order[count - 1]), between(c, 1, 9));
     if (one_in(c, 2)) add_random_rows(c, &d, between(c, 1, 40), between(c, 2, 4), 9);
+    harden(c, &d);
     if (!one_in(c, 3)) shuffle_rows(c, &d);
     start_desk(r, &d, 3, 0);
     emit_both(r, between(c, 0, 60));
@@ -77,7 +72,7 @@ static void lighten(struct chance *c, struct draft *d)
         word names = d->words[ROW_WORDS * i] | d->words[ROW_WORDS * i + 1];
         if (ones(names) == 1 && (which == 0 || names == (word)1 << (d->variables - 1))) row = i;
     }
-    d->words[ROW_WORDS * row + 2] = between(c, 1, 40);
+    d->words[ROW_WORDS * row + WEIGHT] = between(c, 1, 40);
 }
 
 /* One row or two that need every variable, and units for them: groups of up to 65 rows, the conflict first, last or between. */
@@ -114,6 +109,7 @@ static void run_many_groups(struct run *r)
     add_random_rows(c, &d, between(c, 40, 90), 1, most);
     add_random_rows(c, &d, between(c, 100, 300), 2, most);
     add_random_rows(c, &d, (full ? MOST_LOADED : MOST_INPUT_ROWS) - d.rows, 3, most);
+    harden(c, &d);
     start_desk(r, &d, 0, 0);
     emit_both(r, between(c, 0, full ? 2 : 12));
     for (int i = 0; i < 3; i++) call_decide(r);

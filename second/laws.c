@@ -8,17 +8,18 @@ static void check_search_law(struct tally *t, struct chance *c, struct lent d)
     struct losses b;
     word weight, reading;
     search(d, UNITS, MOST_BUDGET, &f);
-    least_by_enumeration(d.words, &weight, &reading);
-    check(t, f.done && f.kept && f.weight == weight && f.reading == reading, "finished search is the enumeration");
-    check(t, bound(d, UNITS, &b).number == 0 && b.conceded + b.lost + b.foreseen <= weight, "the bound is no more than the least weight");
+    bool any = least_by_enumeration(d.words, &weight, &reading);
+    check(t, f.done && f.kept == any, "impossible exactly where no reading satisfies every hard row");
+    check(t, !any || (f.weight == weight && f.reading == reading), "finished search is the enumeration");
+    check(t, bound(d, UNITS, &b).number == 0 && (!any || b.conceded + b.lost + b.foreseen <= weight), "the bound is no more than the least weight");
     check(t, b.conceded == d.words[CONCEDED] && b.conceded + b.lost == lost(d.words), "conceded and lost are what is lost");
-    check(t, desk_weight(d.words, f.reading) == f.weight, "the reading weighs what is said");
+    check(t, !any || (desk_weight(d.words, f.reading) == f.weight && desk_holds(d.words, f.reading)), "the reading weighs what is said");
     uint32_t budget = (uint32_t)between(c, 0, f.nodes - 1);
     search(d, UNITS, budget, &g);
-    check(t, !g.done && g.nodes == budget && (!g.kept || g.weight >= f.weight), "a smaller budget stops");
-    check(t, !g.kept || desk_weight(d.words, g.reading) == g.weight, "a stopped reading weighs what is said");
+    check(t, !g.done && g.nodes == budget && (!g.kept || (any && g.weight >= f.weight)), "a smaller budget stops");
+    check(t, !g.kept || (desk_weight(d.words, g.reading) == g.weight && desk_holds(d.words, g.reading)), "a stopped reading weighs what is said");
     search(d, UNITS, (uint32_t)f.nodes, &g);
-    check(t, g.done && g.weight == f.weight && g.nodes == f.nodes, "the full count is enough");
+    check(t, g.done && g.kept == f.kept && g.weight == f.weight && g.nodes == f.nodes, "the full count is enough");
 }
 
 static void check_searches(struct tally *t, struct chance *c)
@@ -28,6 +29,7 @@ static void check_searches(struct tally *t, struct chance *c)
         word most = between(c, 1, 9);
         add_mixed_rows(c, &d, between(c, 0, 20), most);
         if (one_in(c, 3)) add_random_rows(c, &d, 12, 3, 3);
+        harden(c, &d);
         struct lent desk = load_draft(&d, d.rows);
         check_search_law(t, c, desk);
         if (d.variables > 0 && decide(desk, draw_literal(c, d.variables)).number == 0) check_search_law(t, c, desk);
@@ -48,6 +50,18 @@ static bool same_weights(const word *before, const word *after)
     for (word reading = 0; reading < (word)1 << before[VARIABLES]; reading++) {
         if ((reading & before[DECIDED]) != before[DECIDED_TRUE]) continue;
         if (desk_weight(before, reading) != desk_weight(after, reading)) return false;
+        if (desk_holds(before, reading) != desk_holds(after, reading)) return false;
+    }
+    return true;
+}
+
+/* So that a reading breaks the same ones in either. */
+static bool same_hard_rows(const word *before, const word *after)
+{
+    for (word row = 0; row < after[IN_USE]; row++) {
+        const word *was = desk_row(before, row), *now = desk_row(after, row);
+        bool any = is_hard(now) || (row < before[IN_USE] && is_hard(was));
+        if (any && (row >= before[IN_USE] || memcmp(was, now, ROW_WORDS * sizeof(word)) != 0)) return false;
     }
     return true;
 }
@@ -83,6 +97,7 @@ static void check_step(struct tally *t, struct chance *c, struct lent d, struct 
     check(t, well_formed(d), "a step keeps the desk well formed");
     bool decision = before[DECIDED] != d.words[DECIDED];
     check(t, decision || same_weights(before, d.words), "a rewriting keeps weights");
+    check(t, same_hard_rows(before, d.words), "a step keeps the hard rows, and makes none");
     memcpy(after, d.words, bytes);
     check(t, is(take_back(d), 0, 0) && memcmp(before, d.words, bytes) == 0, "taking back restores the words");
     memcpy(d.words, after, bytes);
@@ -131,6 +146,7 @@ static void check_round_trip(struct tally *t, struct chance *c)
         uint32_t budget = (uint32_t)draw(c);
         word most = one_in(c, 2) ? 9 : MOST_WEIGHT / MOST_LOADED;
         add_mixed_rows(c, &d, one_in(c, 30) ? MOST_LOADED : between(c, 0, 12), most);
+        harden(c, &d);
         word count = ROW_WORDS * d.rows;
         check(t, is(write_text(table_of(&d), budget, text, MOST_TEXT, &length), 0, 0), "the writer takes the table");
         check(t, is(write_text(table_of(&d), budget, text, length - 1, &length), 4, 0), "one byte less is 4");
@@ -150,16 +166,21 @@ static void check_weighings(struct tally *t, struct chance *c)
 {
     for (int i = 0; i < 1000; i++) {
         struct draft d = {.variables = between(c, 0, 7)};
+        struct weighed w;
         add_mixed_rows(c, &d, between(c, 0, 20), 9);
-        word reading = draw(c) % ((word)1 << d.variables), weight, by_masks = 0;
+        harden(c, &d);
+        word reading = draw(c) % ((word)1 << d.variables), by_masks = 0, hard_broken = 0;
         for (word r = 0; r < d.rows; r++) {
             const word *row = d.words + ROW_WORDS * r;
-            if ((row[0] & reading) == 0 && (row[1] & ~reading) == 0) by_masks += row[2];
+            if ((row[0] & reading) != 0 || (row[1] & ~reading) != 0) continue;
+            by_masks += row[WEIGHT];
+            hard_broken += row[MARK];
         }
-        check(t, is(weigh(table_of(&d), reading, &weight), 0, 0) && weight == by_masks, "the sum of broken rows");
+        check(t, is(weigh(table_of(&d), reading, &w), 0, 0) && w.weight == by_masks, "the sum of broken rows");
+        check(t, w.holds == (hard_broken == 0), "whether every hard row holds");
         struct lent desk = load_draft(&d, d.rows);
-        check(t, desk_weight(desk.words, reading) == weight, "a desk as loaded weighs what its table does");
-        check(t, is(weigh(table_of(&d), (word)1 << d.variables, &weight), 8, 0), "a reading above the count");
+        check(t, desk_weight(desk.words, reading) == w.weight, "a desk as loaded weighs what its table does");
+        check(t, is(weigh(table_of(&d), (word)1 << d.variables, &w), 8, 0), "a reading above the count");
     }
 }
 

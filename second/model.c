@@ -41,15 +41,20 @@ static bool clause_fits(const struct clause *c, word variables)
     return true;
 }
 
-void put_clause(word *row, const struct clause *c, word weight)
+static void put_row(word *row, const struct clause *c, word weight, word mark)
 {
     row[0] = row[1] = 0;
     for (int i = 0; i < c->count; i++) {
         int l = c->literals[i];
         row[l > 0 ? 0 : 1] |= bit(abs(l));
     }
-    row[2] = weight;
+    row[WEIGHT] = weight;
+    row[MARK] = mark;
 }
+
+void put_clause(word *row, const struct clause *c, word weight) { put_row(row, c, weight, SOFT); }
+void put_hard(word *row, const struct clause *c) { put_row(row, c, 0, HARD); }
+bool is_hard(const word *row) { return row[MARK] == HARD; }
 
 /* 1 decided true, -1 decided false, 0 undecided. */
 static int state_of(int literal, const struct partial *p)
@@ -89,6 +94,11 @@ static struct refusal judge_size(struct table t)
     return accepted();
 }
 
+/* Another fourth word than the two, or a hard row with a weight. */
+static bool mark_is_bad(const word *row) { return row[MARK] > HARD || (is_hard(row) && row[WEIGHT] != 0); }
+
+static bool weight_is_bad(const word *row) { return !is_hard(row) && (row[WEIGHT] == 0 || row[WEIGHT] > MOST_WEIGHT); }
+
 static struct refusal judge_rows(struct table t)
 {
     sum all = 0;
@@ -96,8 +106,8 @@ static struct refusal judge_rows(struct table t)
         const word *row = t.words + ROW_WORDS * r;
         struct clause c = clause_of(row);
         if (!clause_fits(&c, t.variables)) return refused_at(5, r);
-        if (row[2] == 0 || row[2] > MOST_WEIGHT) return refused_at(6, r);
-        all += row[2];
+        if (mark_is_bad(row) || weight_is_bad(row)) return refused_at(6, r);
+        all += row[WEIGHT];
     }
     return all > MOST_WEIGHT ? refused(7) : accepted();
 }
@@ -108,9 +118,19 @@ static word unsatisfied_weight(const word *rows, word count, word reading)
     word weight = 0;
     for (word r = 0; r < count; r++) {
         struct clause c = clause_of(rows + ROW_WORDS * r);
-        if (!is_satisfied(&c, &p)) weight += rows[ROW_WORDS * r + 2];
+        if (!is_satisfied(&c, &p)) weight += rows[ROW_WORDS * r + WEIGHT];
     }
     return weight;
+}
+
+static bool hard_rows_hold(const word *rows, word count, word reading)
+{
+    struct partial p = full_reading(reading);
+    for (word r = 0; r < count; r++) {
+        struct clause c = clause_of(rows + ROW_WORDS * r);
+        if (is_hard(rows + ROW_WORDS * r) && !is_satisfied(&c, &p)) return false;
+    }
+    return true;
 }
 
 static bool names_above(word mask, word variables)
@@ -120,13 +140,14 @@ static bool names_above(word mask, word variables)
     return false;
 }
 
-struct refusal weigh(struct table t, word reading, word *weight)
+struct refusal weigh(struct table t, word reading, struct weighed *answer)
 {
     struct refusal no = judge_size(t);
     if (no.number == 0) no = judge_rows(t);
     if (no.number != 0) return no;
     if (names_above(reading, t.variables)) return refused(8);
-    *weight = unsatisfied_weight(t.words, t.count / ROW_WORDS, reading);
+    word rows = t.count / ROW_WORDS;
+    *answer = (struct weighed){unsatisfied_weight(t.words, rows, reading), hard_rows_hold(t.words, rows, reading)};
     return accepted();
 }
 
@@ -164,15 +185,16 @@ struct refusal load(struct lent out, struct table t, word capacity)
 static sum conceded_and_weights(const word *desk, word rows)
 {
     sum all = desk[CONCEDED];
-    for (word r = 0; r < rows; r++) all += desk_row(desk, r)[2];
+    for (word r = 0; r < rows; r++) all += desk_row(desk, r)[WEIGHT];
     return all;
 }
 
 static bool rows_fit(const word *desk)
 {
     for (word r = 0; r < desk[IN_USE]; r++) {
-        struct clause c = clause_of(desk_row(desk, r));
-        if (!clause_fits(&c, desk[VARIABLES])) return false;
+        const word *row = desk_row(desk, r);
+        struct clause c = clause_of(row);
+        if (!clause_fits(&c, desk[VARIABLES]) || mark_is_bad(row)) return false;
     }
     return true;
 }
@@ -203,6 +225,8 @@ word desk_weight(const word *desk, word reading)
 {
     return desk[CONCEDED] + unsatisfied_weight(desk_row(desk, 0), desk[IN_USE], reading);
 }
+
+bool desk_holds(const word *desk, word reading) { return hard_rows_hold(desk_row(desk, 0), desk[IN_USE], reading); }
 
 #include "steps.c"
 #include "walk.c"

@@ -1,4 +1,5 @@
-/* The model of document 01, written from its text: tables, the desk, its steps, the bound, the walk and the text; and document 02's files.
+/* The model of document 01, written from its text: tables, the desk, its steps, the bound, the walk and the text; and document 02's files and
+   hard rows.
    It prefers the obvious to the fast: a clause is a list of literals and a partial reading a list of values.
    Every figure that document 01 limits something with stands here and nowhere else. */
 #ifndef MODEL_H
@@ -24,16 +25,19 @@ enum {
     MOST_INPUT_ROWS = 512, /* document 02's C-15: what both programs take; the readers take MOST_LOADED */
     MOST_DIGITS = 10,
     HEAD_WORDS = 8,
-    ROW_WORDS = 3,
+    ROW_WORDS = 4,
     ENTRY_WORDS = 16,
     ENTRIES_WORDS = MOST_STEPS * ENTRY_WORDS,
     MOST_DESK = HEAD_WORDS + ROW_WORDS * MOST_CAPACITY + ENTRIES_WORDS,
     MOST_ANSWER = 1024,
-    MOST_TEXT = 545687, /* the longest text of an admissible table: 883 weights of 7 digits and 1,165 of 6 */
-    MOST_FILE = 525197  /* the longest competition file of one: the same, and a top of 10 digits */
+    MOST_TEXT = 560023, /* the longest text of an admissible table: 883 weights of 7 digits and 1,165 of 6, no row hard */
+    MOST_FILE = 532506  /* the longest competition file of one: a weight of 10 digits, all other rows hard, with a top of 10 digits */
 };
 #define MOST_BUDGET 4294967295u
 
+/* A row: two masks, then these. Its mark, document 02's C-16, is one of two. */
+enum { WEIGHT = 2, MARK = 3 };
+enum { SOFT, HARD };
 /* The head of a desk, in its order. */
 enum { VARIABLES, IN_USE, CAPACITY, STEPS, CONCEDED, DECIDED, DECIDED_TRUE, LOADED };
 enum { DECIDE, MERGE, SHIFT, CHAIN, FORK };
@@ -69,13 +73,20 @@ struct partial {
     signed char value[MOST_VARIABLES + 1];
 };
 
+/* What a reading weighs on a table, and whether every hard row holds. */
+struct weighed {
+    word weight;
+    bool holds;
+};
+
 struct found {
-    bool done;
-    bool kept; /* whether there is a reading; without one, weight and reading mean nothing */
+    bool done; /* whether the walk came to its end */
+    bool kept; /* whether there is a reading; without one, weight and reading mean nothing, and a walk that is done has found it impossible */
     word weight;
     word reading;
     word nodes;
 };
+static inline const char *status_of(const struct found *f) { return !f->done ? "stopped" : f->kept ? "done" : "impossible"; }
 
 struct header {
     word variables;
@@ -109,9 +120,12 @@ bool is_satisfied(const struct clause *c, const struct partial *p);
 struct partial standing(const word *desk);
 const word *desk_row(const word *desk, word number);
 word desk_size(word capacity);
+bool is_hard(const word *row);
+/* A soft row, and a hard one. */
 void put_clause(word *row, const struct clause *c, word weight);
+void put_hard(word *row, const struct clause *c);
 
-struct refusal weigh(struct table t, word reading, word *weight);
+struct refusal weigh(struct table t, word reading, struct weighed *answer);
 struct refusal load(struct lent out, struct table t, word capacity);
 bool well_formed(struct lent desk);
 struct refusal decide(struct lent desk, int64_t literal);
@@ -120,11 +134,13 @@ struct refusal take_back(struct lent desk);
 struct refusal bound(struct lent desk, word choice, struct losses *answer);
 struct refusal search(struct lent desk, word choice, uint32_t budget, struct found *answer);
 
-/* For checks, on well-formed desks only: what one reading weighs, what is lost, and the least weight over all full
-   readings that keep the standing decisions, with the first reading that has it (true before false, variable 1 first). */
+/* For checks, on well-formed desks only: what one reading weighs, whether every hard row holds, what is lost, and the least weight over all
+   full readings that keep the standing decisions and satisfy every hard row, with the first reading that has it (true before false, variable
+   1 first); false where there is none. */
 word desk_weight(const word *desk, word reading);
+bool desk_holds(const word *desk, word reading);
 word lost(const word *desk);
-void least_by_enumeration(const word *desk, word *weight, word *reading);
+bool least_by_enumeration(const word *desk, word *weight, word *reading);
 /* Likewise: the groups that the bound by groups finds, in this order, so many at most; the result is their number. */
 int groups_found(const word *desk, struct group *groups, int most);
 

@@ -46,6 +46,14 @@ static const struct near_miss near_misses[] = {
     {3, "1: 1; 1: -1 2; 1: -1 2; 1: -2 -3", 0, FORK, "0 1 2 3", 2, 14, "b is c"},
     {3, "1: 1; 1: -1 2; 1: -1 -2; 1: -2 3", 0, FORK, "0 1 2 3", 2, 14, "b is not c"},
     {3, "1: 1; 1: -1 2; 1: -2 1; 1: -2 3; 1: -1 -3", 0, FORK, "0 1 2 3 4", 9, 0, "b a variable of the chain"},
+    {2, "1: 1 2; h: -1 2", 0, MERGE, "0 1", 9, 14, "a hard row in a merge"},
+    {2, "h: 1 2; 1: -1 2", 0, MERGE, "0 1", 0, 14, "either, and before 15"},
+    {2, "h: 1; 1: -1 2", 0, SHIFT, "0 1", 2, 14, "a hard unit in a shift"},
+    {2, "1: 1; h: -1 2", 0, SHIFT, "0 1", 2, 14, "a hard pair in a shift"},
+    {2, "1: 1; 1: -1 2; h: -2", 0, CHAIN, "0 1 2", 1, 14, "the last row of a chain hard"},
+    {3, "1: 1; 1: -1 2; 1: -1 3; h: -2 -3", 0, FORK, "0 1 2 3", 2, 14, "the last row of a fork hard"},
+    {2, "h: 1; 1: -1 2", 0, SHIFT, "0 0", 2, 13, "13 before a hard row"},
+    {2, "1: 1; h: 2; 1: -1 2; h: -2", 0, SHIFT, "0 2", 2, 0, "hard rows that are not named"},
     {1, "1: 1; 1: -1", 0, 0, "0 1", 2, 13, "kind 0"},
     {1, "1: 1; 1: -1", 0, 5, "0 1", 2, 13, "kind 5"},
     {1, "1: 1; 1: -1", 0, MERGE, "", 2, 13, "no rows"},
@@ -108,6 +116,9 @@ static void check_poked_rewriting(struct tally *t)
     entry[ENTRY_ROWS] = 3;
     check(t, is(take_back(d), 10, 0), "a row not below the first new one");
     entry[ENTRY_ROWS] = 0;
+    d.words[HEAD_WORDS + MARK] = HARD;
+    check(t, is(take_back(d), 10, 0) && well_formed(d), "a hard row named");
+    d.words[HEAD_WORDS + MARK] = SOFT;
     entry[ENTRY_ROWS + 5] = 99;
     check(t, is(take_back(d), 0, 0) && entry[ENTRY_ROWS + 5] == 0, "places not needed are not judged");
     d = load_rows(2, "1: 1; 1: -1 2", 4);
@@ -117,7 +128,7 @@ static void check_poked_rewriting(struct tally *t)
     entry[ENTRY_WEIGHT] = 500000001;
     check(t, is(take_back(d), 10, 0), "(d) broken afterwards");
     entry[ENTRY_WEIGHT] = 500000000;
-    check(t, is(take_back(d), 0, 0) && d.words[HEAD_WORDS + 2] == 500000000, "(d) just kept");
+    check(t, is(take_back(d), 0, 0) && d.words[HEAD_WORDS + WEIGHT] == 500000000, "(d) just kept");
 }
 
 static void check_poked_decision(struct tally *t)
@@ -157,24 +168,42 @@ static int lines_later(const struct damage *n)
     return strcmp(n->name, "blank-after") == 0 || strcmp(n->name, "twice") == 0;
 }
 
+/* The line of each row that is so many behind its first becomes the damage. */
+static void check_damaged_rows(struct tally *t, const struct draft *d, const struct damage *how, int behind)
+{
+    static struct lines l;
+    for (word row = 0; row < d->rows; row++) {
+        int line = row_line(row) + behind;
+        lines_of(&l, d, 30);
+        strcpy(l.text[line], how->template);
+        check(t, faulted_at(&l, (word)(line + 1 + lines_later(how))), how->name);
+    }
+}
+
 static void check_damaged_lines(struct tally *t)
 {
     static struct lines l;
-    struct draft d = draft_from(2, "1: 1; 2: -1 2; 3:");
+    struct draft d = draft_from(2, "1: 1; h: -1 2; 3:");
     for (int i = 0; i < NUMBER_DAMAGES; i++) {
-        static const int places[] = {0, 1, 2, 3, 5, 7};
-        for (int p = 0; p < 6; p++) {
+        static const int places[] = {0, 1, 2, 3, 4, 6, 7, 9, 10};
+        for (int p = 0; p < 9; p++) {
             lines_of(&l, &d, 30);
             fill_template(l.text[places[p]], number_damages[i].template);
             check(t, faulted_at(&l, (word)(places[p] + 1 + lines_later(&number_damages[i]))), number_damages[i].name);
         }
     }
-    for (int i = 0; i < LITERAL_DAMAGES; i++) {
-        for (int p = 4; p < 9; p += 2) {
-            lines_of(&l, &d, 30);
-            strcpy(l.text[p], literal_damages[i].template);
-            check(t, faulted_at(&l, (word)(p + 1 + lines_later(&literal_damages[i]))), literal_damages[i].name);
-        }
+    for (int i = 0; i < MARK_DAMAGES; i++) check_damaged_rows(t, &d, &mark_damages[i], MARK_LINE);
+    for (int i = 0; i < LITERAL_DAMAGES; i++) check_damaged_rows(t, &d, &literal_damages[i], LITERALS_LINE);
+    for (word row = 0; row < d.rows; row++) {
+        lines_of(&l, &d, 30);
+        damage_marks("mark-missing", &l, row_line(row));
+        check(t, faulted_at(&l, (word)(row_line(row) + 2)), "a mark missing");
+        lines_of(&l, &d, 30);
+        damage_marks("mark-after-lits", &l, row_line(row));
+        check(t, faulted_at(&l, (word)(row_line(row) + 2)), "a mark after the literals");
+        lines_of(&l, &d, 30);
+        damage_marks("mark-before-weight", &l, row_line(row));
+        check(t, faulted_at(&l, (word)(row_line(row) + 1)), "a mark before the weight");
     }
 }
 

@@ -21,6 +21,7 @@ static void draft_for_steps(struct chance *c, struct draft *d, word variables, w
     add_mixed_rows(c, d, between(c, 0, 24), most);
     if (one_in(c, 2) && variables > 0) add_chain(c, d, between(c, 0, MOST_LINKS), most);
     if (one_in(c, 2)) add_fork(c, d, between(c, 0, MOST_LINKS), most);
+    harden(c, d);
 }
 
 static void run_ordinary(struct run *r)
@@ -143,11 +144,13 @@ static void spoil_table(struct chance *c, struct draft *d, word *count)
 {
     if (d->rows == 0) return;
     word row = ROW_WORDS * (draw(c) % d->rows), flipped = (word)1 << draw(c) % 64;
-    switch (draw(c) % 5) {
-    case 0: d->words[row + 2] = odd_word(c); break;
+    switch (draw(c) % 7) {
+    case 0: d->words[row + WEIGHT] = odd_word(c); break;
     case 1: d->words[row + draw(c) % 2] ^= flipped; break;
     case 2: d->words[row + 1] |= d->words[row]; break;
-    case 3: *count -= *count < 2 ? 0 : between(c, 1, 2); break;
+    case 3: *count -= *count < 2 ? 0 : between(c, 1, ROW_WORDS - 1); break;
+    case 4: d->words[row + MARK] = odd_word(c); break;
+    case 5: d->words[row + MARK] = HARD; break;
     default: bring_sum_to_limit(d, draw(c) % 2); break;
     }
 }
@@ -159,6 +162,7 @@ static void run_loads(struct run *r)
     for (int i = 0; i < 12; i++) {
         struct draft d = {.variables = between(c, 0, 7)};
         add_mixed_rows(c, &d, one_in(c, 20) ? between(c, MOST_LOADED - 3, MOST_LOADED + 3) : between(c, 0, 12), 5);
+        harden(c, &d);
         word count = ROW_WORDS * d.rows, capacity = one_in(c, 3) ? odd_word(c) : d.rows + draw(c) % 4 - 1;
         for (word n = draw(c) % 3; n > 0; n--) spoil_table(c, &d, &count);
         emit_table(r, d.words, count);
@@ -183,6 +187,7 @@ static void run_wide(struct run *r)
     for (int i = 0; i < 3; i++) add_chain(c, &d, between(c, 0, MOST_LINKS), 9);
     for (int i = 0; i < 3; i++) add_fork(c, &d, between(c, 0, MOST_LINKS), 9);
     add_clashing_units(c, &d, 5, 9);
+    harden(c, &d);
     start_desk(r, &d, between(c, 10, 80), 1);
     emit(r, "decide %d", one_in(c, 2) ? 64 : -64);
     call_many(r, 40);
@@ -211,7 +216,7 @@ static void run_texts(struct run *r)
             lines_of(&l, &d, budget);
         }
         emit_text(r, &l);
-        word rows = l.count > 3 ? (word)(l.count - 3) / 2 : 0, fill = odd_word(c);
+        word rows = l.count > HEADS ? (word)(l.count - HEADS) / ROW_LINES : 0, fill = odd_word(c);
         emit(r, "read %" PRIu64 " %" PRIu64, one_in(c, 4) ? draw(c) % 40 : ROW_WORDS * rows + draw(c) % 4, fill);
         emit(r, "answer %" PRIu64 " 85", one_in(c, 4) ? draw(c) % 60 : between(c, 60, 900));
     }

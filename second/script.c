@@ -29,9 +29,9 @@
    A line printed is the answer and then a checksum:
      ok CHECK                              load, decide, rewrite, back
      yes CHECK, no CHECK                   wellformed
-     WEIGHT CHECK                          weight
+     WEIGHT holds CHECK                    weight; or broken, where a hard row does not hold
      CONCEDED LOST FORESEEN CHECK          bound; lost: beyond conceded
-     done WEIGHT READING NODES CHECK       search; or stopped; weight and reading may be `none`
+     done WEIGHT READING NODES CHECK       search; or stopped or impossible; weight and reading may be `none`
      ok VARS BUDGET ROWS CHECK             read
      ok VARS CLAUSES CHECK                 readwcnf
      ok LENGTH CHECK                       write, writewcnf, answer
@@ -234,9 +234,8 @@ static void call_search(struct bench *b, struct line *l, FILE *out)
     }
     char text[100];
     if (f.kept)
-        snprintf(text, sizeof text, "%s %" PRIu64 " %" PRIu64 " %" PRIu64, f.done ? "done" : "stopped", f.weight,
-                 f.reading, f.nodes);
-    else snprintf(text, sizeof text, "%s none none %" PRIu64, f.done ? "done" : "stopped", f.nodes);
+        snprintf(text, sizeof text, "%s %" PRIu64 " %" PRIu64 " %" PRIu64, status_of(&f), f.weight, f.reading, f.nodes);
+    else snprintf(text, sizeof text, "%s none none %" PRIu64, status_of(&f), f.nodes);
     show(out, text, bench_check(b));
 }
 
@@ -253,10 +252,11 @@ static void call_bound(struct bench *b, struct line *l, FILE *out)
 
 static void call_weighing(struct bench *b, struct line *l, FILE *out)
 {
-    word weight = 0, variables = next_number(l), reading = next_number(l);
-    char text[24];
-    struct refusal no = weigh((struct table){variables, b->table, b->table_count}, reading, &weight);
-    snprintf(text, sizeof text, "%" PRIu64, weight);
+    struct weighed w = {0, false};
+    word variables = next_number(l), reading = next_number(l);
+    char text[32];
+    struct refusal no = weigh((struct table){variables, b->table, b->table_count}, reading, &w);
+    snprintf(text, sizeof text, "%" PRIu64 " %s", w.weight, w.holds ? "holds" : "broken");
     show_outcome(out, no, text, bench_check(b));
 }
 

@@ -30,6 +30,7 @@
 
 #include "script.c"
 #include "chance.c"
+#include "hard_rows.c"
 #include "texts.c"
 #include "wcnf_texts.c"
 #include "runs.c"
@@ -91,7 +92,7 @@ static int run_wcnf_read(FILE *in, FILE *to)
     if (no.number != 0) return fprintf(to, "refused %u %" PRIu64 "\n", no.number, no.place) > 0 ? 0 : 2;
     fprintf(to, "ok %" PRIu64 " %" PRIu64 "\n", f.variables, f.clauses);
     for (const word *row = words; row < words + ROW_WORDS * f.clauses; row += ROW_WORDS)
-        fprintf(to, "%" PRIu64 " %" PRIu64 " %" PRIu64 "\n", row[0], row[1], row[2]);
+        fprintf(to, "%" PRIu64 " %" PRIu64 " %" PRIu64 " %" PRIu64 "\n", row[0], row[1], row[WEIGHT], row[MARK]);
     return ferror(to) ? 2 : 0;
 }
 

@@ -28,21 +28,18 @@ static void end_family(struct tally *t)
     t->all_failed += t->failed;
 }
 
-/* --- rows and desks written as text: "3: 1 -2 ; 2: -1" is weight 3 and (1, -2), then weight 2 and (-1) --- */
+/* --- rows and desks written as text: "3: 1 -2 ; 2: -1 ; h: 2" is weight 3 and (1, -2), then weight 2 and (-1), then (2), which is hard --- */
 
 static struct draft draft_from(word variables, const char *rows)
 {
     struct draft d = {.variables = variables};
-    while (*rows != 0) {
-        int used = 0;
-        unsigned weight;
-        int literal;
+    for (const char *colon; (colon = strchr(rows, ':')) != NULL;) {
+        int used, literal;
         struct clause c = {0};
-        sscanf(rows, " %u :%n", &weight, &used);
-        for (rows += used; sscanf(rows, " %d%n", &literal, &used) == 1; rows += used)
-            c.literals[c.count++] = (signed char)literal;
-        add_row(&d, c, weight);
-        while (*rows == ' ' || *rows == ';') rows++;
+        const char *weight = rows + strspn(rows, " ;");
+        for (rows = colon + 1; sscanf(rows, " %d%n", &literal, &used) == 1; rows += used) c.literals[c.count++] = (signed char)literal;
+        if (*weight == 'h') add_hard(&d, c);
+        else add_row(&d, c, strtoull(weight, NULL, 10));
     }
     return d;
 }
@@ -196,22 +193,22 @@ static bool answers(const char *input, const char *output)
 
 static void check_texts(struct tally *t)
 {
-    check(t, answers("vars=1\nbudget=100\nrows=2\nweight=3\nlits=1\nweight=2\nlits=-1\n",
+    check(t, answers("vars=1\nbudget=100\nrows=2\nweight=3\nhard=0\nlits=1\nweight=2\nhard=0\nlits=-1\n",
                      "status=done\nweight=2\nnodes=3\nreading=1\nconceded=0\nlost=0\nforeseen=2\n"), "the whole example");
     check(t, answers("vars=0\nbudget=1\nrows=0\n", "status=done\nweight=0\nnodes=1\nreading=\n" NO_LOSSES), "P1");
     check(t, answers("vars=0\nbudget=0\nrows=0\n", "status=stopped\nweight=none\nnodes=0\nreading=none\n" NO_LOSSES),
           "P1, budget 0");
-    check(t, answers("vars=3\nbudget=6\nrows=5\nweight=1\nlits=1\nweight=1\nlits=-1 2\nweight=1\nlits=-1 -2\nweight=1\n"
-                     "lits=-1 3\nweight=1\nlits=-1 -3\n", "status=stopped\nweight=2\nnodes=6\nreading=1 2 3\n" NO_LOSSES), "P4");
-    check(t, answers("vars=1\nbudget=9\nrows=1\nweight=7\nlits=\n", "status=done\nweight=7\nnodes=3\nreading=1\nconceded=0\nlost=7\nforeseen=0\n"), "P9");
+    check(t, answers("vars=3\nbudget=6\nrows=5\nweight=1\nhard=0\nlits=1\nweight=1\nhard=0\nlits=-1 2\nweight=1\nhard=0\nlits=-1 -2\n"
+                     "weight=1\nhard=0\nlits=-1 3\nweight=1\nhard=0\nlits=-1 -3\n", "status=stopped\nweight=2\nnodes=6\nreading=1 2 3\n" NO_LOSSES), "P4");
+    check(t, answers("vars=1\nbudget=9\nrows=1\nweight=7\nhard=0\nlits=\n", "status=done\nweight=7\nnodes=3\nreading=1\nconceded=0\nlost=7\nforeseen=0\n"), "P9");
     check(t, answers("", "status=refused\nnumber=20\nplace=1\n"), "empty");
-    check(t, answers("vars=1\nbudget=9\nrows=1\nweight=7\nlits=", "status=refused\nnumber=20\nplace=5\n"), "unended");
-    check(t, answers("vars=1\nbudget=9\nrows=1\nweight=7\nlits=\n\n", "status=refused\nnumber=20\nplace=6\n"), "surplus");
+    check(t, answers("vars=1\nbudget=9\nrows=1\nweight=7\nhard=0\nlits=", "status=refused\nnumber=20\nplace=6\n"), "unended");
+    check(t, answers("vars=1\nbudget=9\nrows=1\nweight=7\nhard=0\nlits=\n\n", "status=refused\nnumber=20\nplace=7\n"), "surplus");
     check(t, answers("vars=65\nbudget=9\nrows=1\n", "status=refused\nnumber=1\nplace=0\n"), "1 before the rest");
     check(t, answers("vars=1\nbudget=4294967296\nrows=999\n", "status=refused\nnumber=9\nplace=0\n"), "9 before 2");
-    check(t, answers("vars=1\nbudget=9\nrows=2\nweight=1\nlits=\nweight=0\nlits=2\n",
+    check(t, answers("vars=1\nbudget=9\nrows=2\nweight=1\nhard=0\nlits=\nweight=0\nhard=0\nlits=2\n",
                      "status=refused\nnumber=5\nplace=1\n"), "5 before 6, place a row");
-    check(t, answers("vars=2\nbudget=9\nrows=2\nweight=1\nlits=\nweight=0\nlits=2\n",
+    check(t, answers("vars=2\nbudget=9\nrows=2\nweight=1\nhard=0\nlits=\nweight=0\nhard=0\nlits=2\n",
                      "status=refused\nnumber=6\nplace=1\n"), "6");
     static char large[MOST_INPUT + 2];
     memset(large, 'x', MOST_INPUT + 1);
@@ -226,9 +223,9 @@ enum { ROW_LIMITS = sizeof row_limits / sizeof *row_limits };
 /* A text with so many rows by its heads, or as many as that in it: empty ones of weight 1. */
 static const char *text_of_rows(const char *heads, word rows, bool whole)
 {
-    static char text[60 + 15 * MOST_DRAFTED];
+    static char text[60 + 22 * MOST_DRAFTED];
     size_t at = (size_t)sprintf(text, "%srows=%" PRIu64 "\n", heads, rows);
-    for (word r = 0; whole && r < rows; r++) at += (size_t)sprintf(text + at, "weight=1\nlits=\n");
+    for (word r = 0; whole && r < rows; r++) at += (size_t)sprintf(text + at, "weight=1\nhard=0\nlits=\n");
     return text;
 }
 
@@ -307,14 +304,19 @@ static void check_scripts(struct tally *t)
     check(t, check_words(both, 4) != check_words(none, 4), "the top bit in two words");
     char line[60];
     sprintf(line, "lend %" PRIu64 " 9", lent);
-    check(t, run_line(&b, "table 1 0 3 0 1 2", NULL) && run_line(&b, line, NULL), "settings");
+    check(t, run_line(&b, "table 1 0 3 0 0 1 2 0", NULL) && run_line(&b, line, NULL), "settings");
     check(t, prints(&b, "load 1 2", "ok", loaded) && prints(&b, "bound 0", "0 0 2", loaded), "load and bound");
     check(t, prints(&b, "bound 1", "0 0 2", loaded) && prints(&b, "bound 18446744073709551615", "0 0 2", loaded), "the bound by groups");
     check(t, prints(&b, "search 0 100", "done 2 1 3", loaded) && prints(&b, "search 1 100", "done 2 1 3", loaded), "search");
     check(t, prints(&b, "search 0 0", "stopped none none 0", loaded), "search without a reading");
     check(t, prints(&b, "rewrite 1 0 1", "ok", merged) && prints(&b, "back", "ok", loaded), "merge and taking back");
-    check(t, prints(&b, "back", "refused 16 0", loaded) && prints(&b, "weight 1 0", "3", loaded), "a refusal");
+    check(t, prints(&b, "back", "refused 16 0", loaded) && prints(&b, "weight 1 0", "3 holds", loaded), "a refusal");
     check(t, prints(&b, "wellformed", "yes", loaded), "well formed");
+    check(t, run_line(&b, "table 1 0 3 0 0 1 0 1 1 0 0 1", NULL) && prints(&b, "weight 1 0", "3 broken", loaded), "a hard row broken");
+    d = load_rows(1, "3: 1; h: -1; h: 1", 3);
+    word hard = check_words(d.words, d.count);
+    sprintf(line, "lend %" PRIu64 " 9", desk_size(3));
+    check(t, run_line(&b, line, NULL) && prints(&b, "load 1 3", "ok", hard) && prints(&b, "search 1 9", "impossible none none 3", hard), "impossible");
     check(t, !run_line(&b, "load 1", NULL) && !run_line(&b, "merge 0 1", NULL), "bad lines");
     check(t, !run_line(&b, "bound", NULL) && !run_line(&b, "search 9", NULL), "no choice of bound");
     check(t, !run_line(&b, "back 1", NULL), "a word too many");
@@ -324,6 +326,7 @@ static void check_scripts(struct tally *t)
 #include "refusals.c"
 #include "wcnf_checks.c"
 #include "laws.c"
+#include "hard_checks.c"
 #include "group_laws.c"
 
 static int selftest(void)
@@ -345,6 +348,7 @@ static int selftest(void)
     check_competitions(&t);
     check_refusals(&t);
     check_laws(&t);
+    check_hard_rows(&t);
     check_group_laws(&t);
     printf("%d passed, %d failed\n", t.all_passed, t.all_failed);
     return t.all_failed == 0 ? 0 : 1;

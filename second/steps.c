@@ -147,19 +147,19 @@ static bool all_below_and_different(const word *named, word count, word limit)
 
 static word smallest_weight(const word *desk, const word *named, word count)
 {
-    word w = desk_row(desk, named[0])[2];
+    word w = desk_row(desk, named[0])[WEIGHT];
     for (word i = 1; i < count; i++)
-        if (desk_row(desk, named[i])[2] < w) w = desk_row(desk, named[i])[2];
+        if (desk_row(desk, named[i])[WEIGHT] < w) w = desk_row(desk, named[i])[WEIGHT];
     return w;
 }
 
-/* The remnants of the named rows; false if one is satisfied. */
+/* The remnants of the named rows; false if one is hard or satisfied. */
 static bool remnants(const word *desk, const word *named, word count, struct clause *r)
 {
     struct partial p = standing(desk);
     for (word i = 0; i < count; i++) {
         struct clause c = clause_of(desk_row(desk, named[i]));
-        if (is_satisfied(&c, &p)) return false;
+        if (is_hard(desk_row(desk, named[i])) || is_satisfied(&c, &p)) return false;
         r[i] = remnant_of(&c, &p);
     }
     return true;
@@ -178,7 +178,7 @@ static void write_entry(word *desk, word kind, word w, const word *named, word c
 
 static void apply(word *desk, const struct outcome *o, word w, const word *named, word count)
 {
-    for (word i = 0; i < count; i++) row_at(desk, named[i])[2] -= w;
+    for (word i = 0; i < count; i++) row_at(desk, named[i])[WEIGHT] -= w;
     for (int i = 0; i < o->fresh; i++) put_clause(row_at(desk, desk[IN_USE]++), &o->rows[i], w);
     if (o->concedes) desk[CONCEDED] += w;
     desk[STEPS]++;
@@ -222,6 +222,13 @@ static bool added_is_right(word kind, word count, word added)
     }
 }
 
+static bool names_hard(const word *desk, const word *named, word count)
+{
+    for (word i = 0; i < count; i++)
+        if (is_hard(desk_row(desk, named[i]))) return true;
+    return false;
+}
+
 static struct refusal take_back_rewriting(word *desk, word *entry)
 {
     word kind = entry[ENTRY_KIND], w = entry[ENTRY_WEIGHT], count = entry[ENTRY_COUNT];
@@ -230,12 +237,13 @@ static struct refusal take_back_rewriting(word *desk, word *entry)
     if (!count_is_right(kind, count)) return refused(10);
     if (first < desk[LOADED] || first > desk[IN_USE]) return refused(10);
     if (!all_below_and_different(named, count, first)) return refused(10);
+    if (names_hard(desk, named, count)) return refused(10);
     if (!added_is_right(kind, count, desk[IN_USE] - first)) return refused(10);
     bool conceded = kind == CHAIN || kind == FORK || (kind == MERGE && desk[IN_USE] == first);
     if (conceded && desk[CONCEDED] < w) return refused(10);
     sum after = conceded_and_weights(desk, first) + (sum)count * w - (conceded ? w : 0);
     if (after > MOST_WEIGHT) return refused(10);
-    for (word i = 0; i < count; i++) row_at(desk, named[i])[2] += w;
+    for (word i = 0; i < count; i++) row_at(desk, named[i])[WEIGHT] += w;
     memset(row_at(desk, first), 0, (desk[IN_USE] - first) * ROW_WORDS * sizeof *desk);
     if (conceded) desk[CONCEDED] -= w;
     desk[IN_USE] = first;

@@ -72,12 +72,18 @@ static bool take_literals_line(struct cursor *c, word *row)
     return take_end(c);
 }
 
+/* 0 or 1. */
+static bool take_mark_line(struct cursor *c, word *mark)
+{
+    return take_word(c, "hard=") && take_number(c, mark) && *mark <= HARD && take_end(c);
+}
+
 /* The rows after the first three lines, and nothing behind them. */
 static bool take_rows(struct cursor *c, word rows, word *words)
 {
     for (word r = 0; r < rows; r++) {
         word *row = words + ROW_WORDS * r;
-        if (!take_number_line(c, "weight=", &row[2]) || !take_literals_line(c, row)) return false;
+        if (!take_number_line(c, "weight=", &row[WEIGHT]) || !take_mark_line(c, &row[MARK]) || !take_literals_line(c, row)) return false;
     }
     return c->at == c->length;
 }
@@ -153,8 +159,10 @@ struct refusal write_text(struct table t, uint32_t budget, char *out, size_t roo
     put_number_line(&p, "budget=", budget);
     put_number_line(&p, "rows=", t.count / ROW_WORDS);
     for (word r = 0; r < t.count / ROW_WORDS; r++) {
-        struct clause c = clause_of(t.words + ROW_WORDS * r);
-        put_number_line(&p, "weight=", t.words[ROW_WORDS * r + 2]);
+        const word *row = t.words + ROW_WORDS * r;
+        struct clause c = clause_of(row);
+        put_number_line(&p, "weight=", row[WEIGHT]);
+        put_number_line(&p, "hard=", row[MARK]);
         put_literals_line(&p, "lits=", &c);
     }
     if (room < p.length) return refused(4);
@@ -173,7 +181,9 @@ static void put_refusal(struct page *p, struct refusal no)
 static void put_found(struct page *p, word variables, const struct found *f, const struct losses *root)
 {
     struct clause reading = {0};
-    put_word(p, f->done ? "status=done\n" : "status=stopped\n");
+    put_word(p, "status=");
+    put_word(p, status_of(f));
+    put_word(p, "\n");
     if (f->kept) put_number_line(p, "weight=", f->weight);
     else put_word(p, "weight=none\n");
     put_number_line(p, "nodes=", f->nodes);

@@ -1,7 +1,9 @@
 /* Part of second.c: texts for the program, good ones of many families and damaged ones of named kinds. */
 
 /* Lines without their ends; the text is each line and an LF, then the tail. 1 stands for a 0 byte. */
-enum { MOST_LINES = 2 * MOST_DRAFTED + 8, MOST_LINE = 2000 };
+enum { HEADS = 3, ROW_LINES = 3, MOST_LINES = ROW_LINES * MOST_DRAFTED + 8, MOST_LINE = 2000 };
+/* Of a row: its weight, then these. */
+enum { MARK_LINE = 1, LITERALS_LINE = 2 };
 struct lines {
     int count;
     char text[MOST_LINES][MOST_LINE];
@@ -28,15 +30,19 @@ static void literals_text(const word *row, char *text)
 static void lines_of(struct lines *l, const struct draft *d, word budget)
 {
     l->tail[0] = 0;
-    l->count = 3;
+    l->count = HEADS;
     sprintf(l->text[0], "vars=%" PRIu64, d->variables);
     sprintf(l->text[1], "budget=%" PRIu64, budget);
     sprintf(l->text[2], "rows=%" PRIu64, d->rows);
     for (word r = 0; r < d->rows; r++) {
-        sprintf(l->text[l->count++], "weight=%" PRIu64, d->words[ROW_WORDS * r + 2]);
+        sprintf(l->text[l->count++], "weight=%" PRIu64, d->words[ROW_WORDS * r + WEIGHT]);
+        sprintf(l->text[l->count++], "hard=%" PRIu64, d->words[ROW_WORDS * r + MARK]);
         literals_text(d->words + ROW_WORDS * r, l->text[l->count++]);
     }
 }
+
+/* The first line of a row. */
+static int row_line(word row) { return HEADS + ROW_LINES * (int)row; }
 
 static size_t length_of(const struct lines *l)
 {
@@ -67,6 +73,7 @@ static word draft_max2(struct chance *c, struct draft *d)
     d->variables = between(c, 2, 11);
     word most = draw_most_weight(c);
     add_random_rows(c, d, between(c, 1, 50), 2, most);
+    harden(c, d);
     return draw_budget(c);
 }
 
@@ -75,6 +82,7 @@ static word draft_max3(struct chance *c, struct draft *d)
     d->variables = between(c, 3, 10);
     word most = draw_most_weight(c);
     add_random_rows(c, d, between(c, 1, 60), 3, most);
+    harden(c, d);
     return draw_budget(c);
 }
 
@@ -83,6 +91,7 @@ static word draft_mixed(struct chance *c, struct draft *d)
     d->variables = between(c, 0, 9);
     word most = draw_most_weight(c);
     add_mixed_rows(c, d, between(c, 0, 30), most);
+    harden(c, d);
     return draw_budget(c);
 }
 
@@ -92,6 +101,7 @@ static word draft_clashing(struct chance *c, struct draft *d)
     word most = draw_most_weight(c);
     add_clashing_units(c, d, between(c, 1, 20), most);
     add_mixed_rows(c, d, between(c, 0, 6), 5);
+    harden(c, d);
     return draw_budget(c);
 }
 
@@ -102,6 +112,7 @@ static word draft_repeated(struct chance *c, struct draft *d)
         if (one_in(c, 2)) add_chain(c, d, between(c, 3, 8), 6);
         else add_fork(c, d, between(c, 0, 8), 6);
     }
+    harden(c, d);
     return draw_budget(c);
 }
 
@@ -109,6 +120,7 @@ static word draft_limits(struct chance *c, struct draft *d)
 {
     d->variables = between(c, 1, 6);
     add_mixed_rows(c, d, between(c, 1, 12), 80000000);
+    harden(c, d);
     bring_sum_to_limit(d, draw(c) % 3);
     return draw_budget(c);
 }
@@ -119,6 +131,7 @@ static word draft_wide(struct chance *c, struct draft *d)
     word length = between(c, 1, 3);
     add_random_rows(c, d, between(c, 1, 90), length, 9);
     add_mixed_rows(c, d, between(c, 0, 60), 9);
+    harden(c, d);
     return between(c, 0, 400);
 }
 
@@ -129,7 +142,16 @@ static word draft_full(struct chance *c, struct draft *d)
     word length = between(c, 0, 6);
     word rows = one_in(c, 5) ? between(c, MOST_LOADED - 3, MOST_LOADED + 2) : between(c, MOST_INPUT_ROWS - 7, MOST_INPUT_ROWS + 2);
     add_random_rows(c, d, rows, length, 1000);
+    harden(c, d);
     return between(c, 0, 60);
+}
+
+/* A soft row of no weight, or a hard one with some. */
+static void spoil_weight(struct chance *c, struct draft *d)
+{
+    word row = draw(c) % d->rows, *words = d->words + ROW_WORDS * row;
+    if (one_in(c, 3)) words[MARK] = HARD;
+    words[WEIGHT] = is_hard(words) ? between(c, 1, 9) : 0;
 }
 
 static word draft_odd_weight(struct chance *c, struct draft *d)
@@ -138,7 +160,8 @@ static word draft_odd_weight(struct chance *c, struct draft *d)
     draft_mixed(c, d);
     for (word i = between(c, 1, 2); i > 0 && d->rows > 0; i--) {
         word weight = odd[draw(c) % 6];
-        d->words[ROW_WORDS * (draw(c) % d->rows) + 2] = weight;
+        d->words[ROW_WORDS * (draw(c) % d->rows) + WEIGHT] = weight;
+        if (one_in(c, 4)) spoil_weight(c, d);
     }
     return draw_budget(c);
 }
@@ -148,8 +171,9 @@ static word draft_above(struct chance *c, struct draft *d)
 {
     d->variables = between(c, 4, MOST_VARIABLES);
     add_mixed_rows(c, d, between(c, 1, 12), 9);
+    harden(c, d);
     d->variables -= between(c, 1, 4);
-    if (one_in(c, 3)) d->words[ROW_WORDS * (draw(c) % d->rows) + 2] = 0;
+    if (one_in(c, 3)) spoil_weight(c, d);
     return between(c, 0, 50);
 }
 
@@ -170,7 +194,7 @@ static void lines_of_length(struct lines *l, struct chance *c, size_t length)
     for (int r = 0; r < 300; r++) add_row(&d, (struct clause){0}, 1);
     lines_of(l, &d, between(c, 0, 20));
     size_t now = length_of(l);
-    for (int i = 4; i < l->count; i += 2) {
+    for (int i = row_line(0) + LITERALS_LINE; i < l->count; i += ROW_LINES) {
         for (int v = 1; v <= MOST_VARIABLES; v++) {
             char literal[8];
             size_t more = (size_t)sprintf(literal, "%s%d", v > 1 ? " " : "", one_in(c, 2) ? v : -v);
@@ -179,7 +203,7 @@ static void lines_of_length(struct lines *l, struct chance *c, size_t length)
             now += more;
         }
     }
-    for (; now < length; now++) strcat(l->text[3], "0");
+    for (; now < length; now++) strcat(l->text[row_line(0)], "0");
 }
 
 struct family {

@@ -1,6 +1,6 @@
 /* Part of second.c: runs the vectors of the source documents. The form of a line is explained at the top of vectors.txt. */
 
-enum { VECTOR_FIELDS = 6, LEAST_VECTORS = 105 };
+enum { VECTOR_FIELDS = 6, LEAST_VECTORS = 117 };
 static const char *const vector_kinds[] = {"decide", "merge", "shift", "chain", "fork"};
 
 static char *without_spaces(char *text)
@@ -54,14 +54,16 @@ static bool is_left(const word *desk, word row, struct clause *remnant)
     struct partial p = standing(desk);
     struct clause c = clause_of(desk_row(desk, row));
     *remnant = remnant_of(&c, &p);
-    return !is_satisfied(&c, &p) && desk_row(desk, row)[2] > 0 && remnant->count > 0;
+    bool spent = desk_row(desk, row)[WEIGHT] == 0 && !is_hard(desk_row(desk, row));
+    return !is_satisfied(&c, &p) && !spent && remnant->count > 0;
 }
 
-/* Crosses out of the draft one row with this remnant and weight. */
-static bool cross_out(struct draft *d, const struct clause *remnant, word weight)
+/* Crosses out of the draft one row with this remnant, and the weight or mark of a row. */
+static bool cross_out(struct draft *d, const struct clause *remnant, const word *as)
 {
     word row[ROW_WORDS];
-    put_clause(row, remnant, weight);
+    if (is_hard(as)) put_hard(row, remnant);
+    else put_clause(row, remnant, as[WEIGHT]);
     for (word r = 0; r < d->rows; r++) {
         if (memcmp(d->words + ROW_WORDS * r, row, sizeof row) != 0) continue;
         d->rows--;
@@ -78,7 +80,7 @@ static bool formula_is(const word *desk, char *rows)
     struct draft d = draft_from(0, rows);
     for (word r = 0; r < desk[IN_USE]; r++) {
         struct clause remnant;
-        if (is_left(desk, r, &remnant) && !cross_out(&d, &remnant, desk_row(desk, r)[2])) return false;
+        if (is_left(desk, r, &remnant) && !cross_out(&d, &remnant, desk_row(desk, r))) return false;
     }
     return d.rows == 0;
 }
@@ -86,11 +88,18 @@ static bool formula_is(const word *desk, char *rows)
 static word least_weight(struct lent d, bool *agreed)
 {
     struct found f;
-    word weight, reading;
+    word weight = 0, reading;
     search(d, UNITS, MOST_BUDGET, &f);
-    least_by_enumeration(d.words, &weight, &reading);
-    *agreed = f.done && f.kept && f.weight == weight && f.reading == reading;
+    bool any = least_by_enumeration(d.words, &weight, &reading);
+    *agreed = any && f.done && f.kept && f.weight == weight && f.reading == reading;
     return weight;
+}
+
+static bool none_is_found(struct lent d)
+{
+    struct found f;
+    word weight, reading;
+    return !least_by_enumeration(d.words, &weight, &reading) && search(d, UNITS, MOST_BUDGET, &f).number == 0 && f.done && !f.kept;
 }
 
 static word reading_from(const char *literals)
@@ -115,10 +124,13 @@ static bool result_holds(struct lent d, char *result)
     if (begins(result, "found ")) return groups_are(w, result + 6);
     if (sscanf(result, "least %u", &n) == 1) return least_weight(d, &agreed) == n && agreed;
     if (sscanf(result, "atleast %u", &n) == 1) return least_weight(d, &agreed) >= n && agreed;
-    if (sscanf(result, "row %u %u", &row, &n) == 2) return row < w[IN_USE] && desk_row(w, row)[2] == n;
+    if (sscanf(result, "row %u %u", &row, &n) == 2) return row < w[IN_USE] && desk_row(w, row)[WEIGHT] == n;
     if (begins(result, "weigh ") && equals != NULL)
         return desk_weight(w, reading_from(result + 6)) == strtoull(equals + 1, NULL, 10);
     if (begins(result, "formula ")) return formula_is(w, result + 8);
+    if (begins(result, "breaks ")) return !desk_holds(w, reading_from(result + 7));
+    if (begins(result, "holds ")) return desk_holds(w, reading_from(result + 6));
+    if (strcmp(result, "impossible") == 0) return none_is_found(d);
     return false;
 }
 

@@ -1,4 +1,5 @@
-/* Part of model.c: what is lost, the two bounds, the walk, and the enumeration that a finished walk is checked against. */
+/* Part of model.c: what is lost, the two bounds, the walk, and the enumeration that a finished walk is checked against. Bounds pass over hard
+   rows, which weigh 0; the walk cuts where one is lost. */
 
 /* The rows in use as literal lists, made once for many nodes. */
 struct sheet {
@@ -7,6 +8,7 @@ struct sheet {
     int count;
     struct clause rows[MOST_CAPACITY];
     word weights[MOST_CAPACITY];
+    bool hard[MOST_CAPACITY];
 };
 
 /* Only the rows in use are written, since a sheet is long. */
@@ -17,16 +19,31 @@ static void fill_sheet(struct sheet *s, const word *desk)
     s->count = (int)desk[IN_USE];
     for (int r = 0; r < s->count; r++) {
         s->rows[r] = clause_of(desk_row(desk, (word)r));
-        s->weights[r] = desk_row(desk, (word)r)[2];
+        s->weights[r] = desk_row(desk, (word)r)[WEIGHT];
+        s->hard[r] = is_hard(desk_row(desk, (word)r));
     }
+}
+
+/* Unsatisfied, with an empty remnant. */
+static bool is_lost(const struct sheet *s, int r, const struct partial *p)
+{
+    return !is_satisfied(&s->rows[r], p) && remnant_of(&s->rows[r], p).count == 0;
 }
 
 static word lost_beyond(const struct sheet *s, const struct partial *p)
 {
     word weight = 0;
     for (int r = 0; r < s->count; r++)
-        if (!is_satisfied(&s->rows[r], p) && remnant_of(&s->rows[r], p).count == 0) weight += s->weights[r];
+        if (is_lost(s, r, p)) weight += s->weights[r];
     return weight;
+}
+
+/* Whether no reading below keeps all hard rows, as far as one of them shows it alone. */
+static bool is_dead(const struct sheet *s, const struct partial *p)
+{
+    for (int r = 0; r < s->count; r++)
+        if (s->hard[r] && is_lost(s, r, p)) return true;
+    return false;
 }
 
 static word foreseen_by_units(const struct sheet *s, const struct partial *p)
@@ -112,6 +129,7 @@ static void visit(struct walk *w, struct partial p)
         return;
     }
     w->nodes++;
+    if (is_dead(w->sheet, &p)) return;
     struct losses l = losses_under(w->sheet, w->choice, &p);
     word b = l.conceded + l.lost + l.foreseen;
     if (b >= w->best) return;
@@ -142,6 +160,7 @@ static void enumerate(const word *desk, struct partial p, int v, word *weight, w
 {
     if ((word)v > desk[VARIABLES]) {
         word r = reading_of(&p), now = desk_weight(desk, r);
+        if (!desk_holds(desk, r)) return;
         if (!*any || now < *weight) {
             *weight = now;
             *reading = r;
@@ -154,8 +173,9 @@ static void enumerate(const word *desk, struct partial p, int v, word *weight, w
     if (!decided || !has_bit(desk[DECIDED_TRUE], v)) enumerate(desk, fix(p, v, -1), v + 1, weight, reading, any);
 }
 
-void least_by_enumeration(const word *desk, word *weight, word *reading)
+bool least_by_enumeration(const word *desk, word *weight, word *reading)
 {
     bool any = false;
     enumerate(desk, (struct partial){{0}}, 1, weight, reading, &any);
+    return any;
 }

@@ -1,5 +1,5 @@
-/* Part of model.c: competition files, request C-11 of document 02: the reader, the writer and the answer of the front door `./wcnf`. Each judges
-   everything before it writes. What takes and puts bytes is text.c's. */
+/* Part of model.c: competition files, requests C-11 and C-16 of document 02: the reader, the writer and the answer of the front door `./wcnf`.
+   A clause that weighs top or more is a hard row. Each judges everything before it writes. What takes and puts bytes is text.c's. */
 
 /* One space or more. */
 static bool take_gap(struct cursor *c)
@@ -34,7 +34,7 @@ static bool take_clause(struct cursor *c, word variables, word *row, bool *fits)
     word v;
     row[0] = row[1] = 0;
     *fits = true;
-    if (!take_number(c, &row[2])) return false;
+    if (!take_number(c, &row[WEIGHT])) return false;
     do {
         if (!take_gap(c)) return false;
         bool negative = take(c, '-');
@@ -61,7 +61,8 @@ static struct refusal read_wcnf_within(word most, const unsigned char *text, siz
         word *row = words + ROW_WORDS * r;
         if (!take_clause(&c, f.variables, row, &fits)) return refused_at(20, c.line);
         if (!fits) return refused_at(5, r);
-        if (row[2] >= f.top) return refused_at(21, r);
+        row[MARK] = row[WEIGHT] >= f.top ? HARD : SOFT;
+        if (is_hard(row)) row[WEIGHT] = 0;
     }
     if (c.at != c.length) return refused_at(20, c.line);
     for (word i = 0; i < ROW_WORDS * f.clauses; i++) out.words[i] = words[i];
@@ -83,15 +84,21 @@ static void put_spaced_literals(struct page *p, const struct clause *c)
     }
 }
 
-static void put_figures(struct page *p, struct table t)
+/* The sum of the soft weights, and one. */
+static word top_of(struct table t)
 {
     word all = 0;
-    for (word r = 0; r < t.count / ROW_WORDS; r++) all += t.words[ROW_WORDS * r + 2];
+    for (word r = 0; r < t.count / ROW_WORDS; r++) all += t.words[ROW_WORDS * r + WEIGHT];
+    return all + 1;
+}
+
+static void put_figures(struct page *p, struct table t)
+{
     put_word(p, "p wcnf ");
     put_number(p, t.variables);
     put_word(p, " ");
     put_number(p, t.count / ROW_WORDS);
-    put_number_line(p, " ", all + 1);
+    put_number_line(p, " ", top_of(t));
 }
 
 struct refusal write_wcnf(struct table t, char *out, size_t room, size_t *length)
@@ -102,9 +109,11 @@ struct refusal write_wcnf(struct table t, char *out, size_t room, size_t *length
     if (no.number != 0) return no;
     p.length = 0;
     put_figures(&p, t);
+    word top = top_of(t);
     for (word r = 0; r < t.count / ROW_WORDS; r++) {
-        struct clause c = clause_of(t.words + ROW_WORDS * r);
-        put_number(&p, t.words[ROW_WORDS * r + 2]);
+        const word *row = t.words + ROW_WORDS * r;
+        struct clause c = clause_of(row);
+        put_number(&p, is_hard(row) ? top : row[WEIGHT]);
         put_spaced_literals(&p, &c);
         put_word(&p, " 0\n");
     }
@@ -128,7 +137,7 @@ static void put_competition_found(struct page *p, word variables, const struct f
     struct clause reading = {0};
     put_number_line(p, "c nodes ", f->nodes);
     if (f->kept) put_number_line(p, "o ", f->weight);
-    put_word(p, f->done ? "s OPTIMUM FOUND\n" : "s UNKNOWN\n");
+    put_word(p, !f->done ? "s UNKNOWN\n" : f->kept ? "s OPTIMUM FOUND\n" : "s UNSATISFIABLE\n");
     if (!f->kept) return;
     for (int v = 1; (word)v <= variables; v++) add_literal(&reading, has_bit(f->reading, v) ? v : -v);
     put_word(p, "v");

@@ -33,11 +33,11 @@ static void check_reader_by_hand(struct tally *t)
     check(t, read_is("", 20, 1) && read_is("c", 20, 1) && read_is("c\n", 20, 2) && read_is("p wcnf 0 0 0", 20, 1), "a missing header");
     check(t, read_is("c\nc\np wcnf 1 1\n", 20, 3) && read_is("c\n\np wcnf 0 0 0\n", 20, 2), "a broken header, by its line");
     check(t, read_is("p wcnf 1 2 9\n1 2 0\n1 1\n", 5, 0) && read_is("p wcnf 1 2 9\n1 1 0\n1 1\n", 20, 3), "line by line");
-    check(t, read_is("p wcnf 1 1 9\n9 2 0 \n", 20, 2) && read_is("p wcnf 1 1 9\n9 2 0\n", 5, 0) && read_is("p wcnf 1 1 9\n9 1 0\n", 21, 0),
-          "in one line 20, 5, 21");
-    check(t, reads("p wcnf 1 1 9\n8 1 0\n", 1, "8: 1"), "a weight below top");
-    check(t, read_is("p wcnf 1 1 9\n9 1 0\nx", 21, 0) && read_is("p wcnf 1 1 9\n8 1 0\nx", 20, 3), "a surplus line comes last");
-    check(t, read_is("p wcnf 1 1 0\n0 1 0\n", 21, 0), "top 0 lets no weight pass");
+    check(t, read_is("p wcnf 1 1 9\n9 2 0 \n", 20, 2) && read_is("p wcnf 1 1 9\n9 2 0\n", 5, 0), "in one line 20, 5, hard or not");
+    check(t, reads("p wcnf 1 3 9\n8 1 0\n9 1 0\n10 -1 0\n", 1, "8: 1; h: 1; h: -1"), "weights below top, at it and above");
+    check(t, reads("p wcnf 2 3 1\n9999999999 1 2 0\n1000000001 0\n0 2 0\n", 2, "h: 1 2; h:; 0: 2"), "whatever they are");
+    check(t, read_is("p wcnf 1 1 9\n9 2 0\nx", 5, 0) && read_is("p wcnf 1 1 9\n9 1 0\nx", 20, 3), "a surplus line comes last");
+    check(t, reads("p wcnf 1 2 0\n0 1 0\n5 0\n", 1, "h: 1; h:"), "top 0 makes every clause hard");
     check(t, read_is("p wcnf 1 1 9\n1 9999999999 0\n", 5, 0) && read_is("p wcnf 1 1 9\n1 10000000000 0\n", 20, 2), "10 digits and 11");
 }
 
@@ -59,7 +59,10 @@ static void check_door(struct tally *t)
     check(t, door_answers(p4, 6, "c nodes 6\no 2\ns UNKNOWN\nv 1 2 3\n"), "P4, budget 6");
     check(t, door_answers("p wcnf 1 1 8\n7 0\n", MOST_BUDGET, "c nodes 3\no 7\ns OPTIMUM FOUND\nv 1\n"), "P9");
     check(t, door_answers("c\n", MOST_BUDGET, "c refused: number 20, place 2\ns UNKNOWN\n"), "no header");
-    check(t, door_answers("p wcnf 1 1 8\n8 0\n", MOST_BUDGET, "c refused: number 21, place 0\ns UNKNOWN\n"), "top");
+    check(t, door_answers("p wcnf 1 1 8\n8 0\n", MOST_BUDGET, "c nodes 1\ns UNSATISFIABLE\n"), "top, and no literals");
+    check(t, door_answers("p wcnf 1 2 8\n8 1 0\n9 -1 0\n", MOST_BUDGET, "c nodes 3\ns UNSATISFIABLE\n"), "two that clash");
+    check(t, door_answers("p wcnf 1 2 8\n8 1 0\n9 -1 0\n", 2, "c nodes 2\ns UNKNOWN\n"), "two that clash, budget 2");
+    check(t, door_answers("p wcnf 1 2 8\n7 1 0\n8 -1 0\n", MOST_BUDGET, "c nodes 3\no 7\ns OPTIMUM FOUND\nv -1\n"), "one that costs");
     check(t, door_answers("p wcnf 1 2 8\n1 0\n0 1 0\n", MOST_BUDGET, "c refused: number 6, place 1\ns UNKNOWN\n"), "weight 0");
     check(t, door_answers("p wcnf 1 2 1000000001\n1000000000 1 0\n1 -1 0\n", MOST_BUDGET, "c refused: number 7, place 0\ns UNKNOWN\n"), "P10");
     memset(large, 'c', MOST_INPUT + 1);
@@ -131,11 +134,13 @@ static void check_writer_by_hand(struct tally *t)
     check(t, writes(0, "", "p wcnf 0 0 1\n"), "nothing at all");
     check(t, writes(3, "5: 3 -1; 2:", "p wcnf 3 2 8\n5 -1 3 0\n2 0\n"), "rising, and top is the sum and one");
     check(t, writes(1, "1000000000: 1", "p wcnf 1 1 1000000001\n1000000000 1 0\n"), "the largest top");
+    check(t, writes(2, "h: 1; 5: 2; h:; 2: -1", "p wcnf 2 4 8\n8 1 0\n5 2 0\n8 0\n2 -1 0\n"), "hard rows with top");
+    check(t, writes(1, "h: 1; h: -1", "p wcnf 1 2 1\n1 1 0\n1 -1 0\n"), "and no soft ones");
     check(t, write_is(65, "0: 1", 1, 0) && write_is(1, "1:; 1: 2", 5, 1) && write_is(1, "1: 1 -1", 5, 0), "1 and 5");
     check(t, write_is(1, "1:; 0: 1", 6, 1) && write_is(1, "1000000001:", 6, 0) && write_is(1, "0:; 1: 2", 6, 0), "6");
     check(t, write_is(1, "1000000000: 1; 1: 1", 7, 0) && write_is(1, "1: 1", 4, 0), "7 and 4");
-    draft_longest(&d);
-    check(t, is(write_draft(&d, MOST_FILE, &length), 0, 0) && length == MOST_FILE, "the longest text");
+    draft_longest_file(&d);
+    check(t, is(write_draft(&d, MOST_FILE, &length), 0, 0) && length == MOST_FILE, "the longest file");
     check(t, is(write_draft(&d, MOST_FILE - 1, &length), 4, 0), "one byte less is 4");
     add_row(&d, unit_row(1), 1);
     check(t, is(write_draft(&d, 0, &length), 2, 0), "one row too many");

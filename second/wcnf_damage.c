@@ -37,7 +37,6 @@ static const struct competition_damage header_damages[] = {
     {"variables-ten-digits", "p wcnf 9999999999 # ^", 1, 0}, {"variables-wrap-32", "p wcnf 4294967298 # ^", 1, 0},
     {"clauses-one-too-many", "p wcnf $ @ ^", 2, 0}, {"clauses-ten-digits", "p wcnf $ 9999999999 ^", 2, 0},
     {"clauses-wrap-32", "p wcnf $ 4294967297 ^", 2, 0}, {"1-before-2", "p wcnf 65 @ 0", 1, 0},
-    {"top-zero", "p wcnf $ # 0", 21, 0},
 };
 
 static const struct competition_damage clause_damages[] = {
@@ -76,9 +75,9 @@ static const struct competition_damage clause_damages[] = {
     {"wraps-8", "& 257 0", 5, 0},                {"wraps-32", "& 4294967297 0", 5, 0},
     {"ten-digits", "& 9999999999 0", 5, 0},      {"minus-ten-digits", "& -9999999999 0", 5, 0},
     {"20-before-5", "& % 1", 20, 0},             {"20-before-5-both-ways", "& 1 -1 0 ", 20, 0},
-    {"5-before-21", "^ % 0", 5, 0},              {"5-both-ways-before-21", "^ -1 1 0", 5, 0},
-    {"20-before-21", "^ 1", 20, 0},              {"weight-top", "^ 1 0", 21, 0},
-    {"weight-top-empty", "^ 0", 21, 0},          {"weight-ten-digits", "9999999999 -1 0", 21, 0},
+    {"hard-above", "^ % 0", 5, 0},               {"hard-both-ways", "^ -1 1 0", 5, 0},
+    {"hard-no-zero", "^ 1", 20, 0},              {"hard-space-last", "^ 1 0 ", 20, 0},
+    {"hard-above-ten-digits", "9999999999 % 0", 5, 0}, {"hard-both-ways-ten-digits", "9999999999 1 -1 0", 5, 0},
     {"weight-zero", "0 1 0", 6, 0},              {"weight-zero-empty", "0 0", 6, 0},
 };
 
@@ -106,7 +105,7 @@ static word line_of(const struct broken *b, int index) { return b->w->bare + (wo
 
 static void set_clause(struct broken *b, int clause, const char *template)
 {
-    fill_line(b, template, b->d.words[ROW_WORDS * clause + 2], b->w->l.text[b->w->header + 1 + clause]);
+    fill_line(b, template, b->d.words[ROW_WORDS * clause + WEIGHT], b->w->l.text[b->w->header + 1 + clause]);
 }
 
 static void set_header(struct broken *b, const char *template) { fill_line(b, template, 0, b->w->l.text[b->w->header]); }
@@ -181,19 +180,19 @@ static word damage_behind(struct chance *c, const char *name, struct broken *b)
     return place;
 }
 
-/* Two faults, of which one comes first; and a top of 0, which lets no weight pass, not even 0. */
+/* Two faults, of which one comes first; or one behind hard clauses. */
 static word damage_twice(struct chance *c, const char *name, struct broken *b)
 {
     static const char open[] = "& 1", above[] = "& % 0", heavy[] = "^ 1 0", surplus[] = "1 1 0\n";
     int first = 0, last = (int)b->d.rows - 1;
     (void)c;
     if (strcmp(name, "5-before-later-20") == 0) set_clause(b, first, above), set_clause(b, last, open);
-    else if (strcmp(name, "21-before-later-5") == 0) set_clause(b, first, heavy), set_clause(b, last, above);
+    else if (strcmp(name, "hard-before-later-5") == 0) set_clause(b, first, heavy), set_clause(b, first = last, above);
     else if (strcmp(name, "20-before-later-5") == 0) set_clause(b, first, open), set_clause(b, last, above);
     else if (strcmp(name, "5-before-surplus") == 0) set_clause(b, first = last, above), strcpy(b->w->l.tail, surplus);
-    else if (strcmp(name, "21-before-surplus") == 0) set_clause(b, first = last, heavy), strcpy(b->w->l.tail, surplus);
+    else if (strcmp(name, "20-before-hard") == 0) set_clause(b, first, open), set_clause(b, last, heavy);
+    else if (strcmp(name, "all-hard-before-5") == 0) set_header(b, "p wcnf $ # 0"), set_clause(b, first = last, above);
     else if (strcmp(name, "5-before-missing") == 0) set_clause(b, first, above), b->w->l.count--;
-    else if (strcmp(name, "top-and-weight-zero") == 0) set_header(b, "p wcnf $ # 0"), set_clause(b, first, "0 1 0");
     else if (strcmp(name, "1-before-clauses") == 0) set_header(b, "p wcnf 65 # ^"), set_clause(b, first, open);
     else set_header(b, "p wcnf $ @ ^"), set_clause(b, first, open);
     return strncmp(name, "20", 2) == 0 ? line_of(b, b->w->header + 1) : (word)first;
@@ -224,11 +223,11 @@ static const struct {
     {"byte-at-end", 20, damage_behind},                  {"space-at-end", 20, damage_behind},
     {"nul-at-end", 20, damage_behind},                   {"return-at-end", 20, damage_behind},
     {"comment-at-end", 20, damage_behind},               {"percent-at-end", 20, damage_behind},
-    {"5-before-later-20", 5, damage_twice},              {"21-before-later-5", 21, damage_twice},
+    {"5-before-later-20", 5, damage_twice},              {"hard-before-later-5", 5, damage_twice},
     {"20-before-later-5", 20, damage_twice},             {"5-before-surplus", 5, damage_twice},
-    {"21-before-surplus", 21, damage_twice},             {"5-before-missing", 5, damage_twice},
+    {"20-before-hard", 20, damage_twice},                {"5-before-missing", 5, damage_twice},
     {"1-before-clauses", 1, damage_twice},               {"2-before-clauses", 2, damage_twice},
-    {"top-and-weight-zero", 21, damage_twice},
+    {"all-hard-before-5", 5, damage_twice},
 };
 
 enum {
@@ -245,6 +244,7 @@ static void make_whole(struct chance *c, struct broken *b)
 {
     b->d = (struct draft){.variables = one_in(c, 8) ? (word)MOST_VARIABLES : between(c, 2, 6)};
     add_mixed_rows(c, &b->d, one_in(c, 8) ? MOST_INPUT_ROWS - 1 : between(c, 2, 8), 9);
+    harden(c, &b->d);
     b->top = draw_top(c, &b->d);
     competition_of(c, b->w, &b->d, b->top, one_in(c, 2) ? ALL_MANNERS : PLAIN);
     if (b->d.rows < 10 && one_in(c, 6)) b->w->bare = between(c, 1, 30000);
@@ -253,7 +253,7 @@ static void make_whole(struct chance *c, struct broken *b)
 /* A line of the template's stands in the file; the result is the place. */
 static word damage_line(struct broken *b, const struct competition_damage *how, int index, int clause)
 {
-    fill_line(b, how->template, clause < 0 ? 0 : b->d.words[ROW_WORDS * clause + 2], b->w->l.text[index]);
+    fill_line(b, how->template, clause < 0 ? 0 : b->d.words[ROW_WORDS * clause + WEIGHT], b->w->l.text[index]);
     if (how->number == 20) return line_of(b, index + how->later);
     return clause < 0 ? 0 : (word)clause;
 }

@@ -37,13 +37,22 @@ static void emit_writings(struct run *r, word variables, const word *words, word
     emit_readings(r, count / ROW_WORDS);
 }
 
+/* One of a row; a row without a weight is hard, at times. */
+static word odd_table_word(struct chance *c, word which, word weight)
+{
+    if (one_in(c, 40)) return odd_word(c);
+    if (which == WEIGHT) return one_in(c, 9) ? 0 : between(c, 1, 9);
+    if (which == MARK) return weight == 0 && !one_in(c, 9) ? HARD : SOFT;
+    return draw(c) % 4 & (which + 1);
+}
+
 /* Tables that no reader gives: words that are no rows, too many rows, and rows as they come. */
 static void emit_odd_table(struct run *r)
 {
     static word words[ROW_WORDS * MOST_DRAFTED];
     struct chance *c = &r->chance;
     word variables = between(c, 2, 65), count = one_in(c, 4) ? between(c, ROW_WORDS * (MOST_LOADED - 1), ROW_WORDS * (MOST_LOADED + 2)) : draw(c) % 30;
-    for (word i = 0; i < count; i++) words[i] = i % ROW_WORDS == 2 ? between(c, 1, 9) : one_in(c, 40) ? odd_word(c) : draw(c) % 4 & (i % 2 + 1);
+    for (word i = 0; i < count; i++) words[i] = odd_table_word(c, i % ROW_WORDS, i % ROW_WORDS == MARK ? words[i - 1] : 0);
     emit_table(r, words, count);
     emit(r, "writewcnf %" PRIu64 " %" PRIu64 " 85", variables, one_in(c, 9) ? 9 : text_room(count / ROW_WORDS));
 }

@@ -1,4 +1,4 @@
-/* Part of second.c: competition files (document 02, C-11): good ones of many families, each in one of the manners in which one table may be
+/* Part of second.c: competition files (document 02, C-11 and C-16): good ones of many families, each in one of the manners in which one table may be
    written, those that reader or load refuse by their figures, and damaged ones of named kinds. */
 
 /* The lines of texts.c, and before them so many comment lines of one byte each. The header is the line of this index. */
@@ -10,8 +10,8 @@ struct competition {
 enum { MOST_COMPETITION = MOST_LINES * MOST_LINE + 2 * MOST_INPUT };
 #define MOST_TOP 9999999999u
 
-/* The manners; each but the first keeps the table, and so do all of them together. */
-enum { PLAIN, SHUFFLED = 1, REPEATED = 2, COMMENTED = 4, SPACED = 8, ALL_MANNERS = 15 };
+/* The manners; each but the first keeps the table, and so do all of them together. In a heavy one hard rows weigh more than top, at times. */
+enum { PLAIN, SHUFFLED = 1, REPEATED = 2, COMMENTED = 4, SPACED = 8, HEAVY = 16, ALL_MANNERS = 31 };
 
 static size_t competition_bytes(const struct competition *w, unsigned char *out)
 {
@@ -75,7 +75,13 @@ static void shuffle(struct chance *c, signed char *literals, int count)
     }
 }
 
-static void clause_line(struct chance *c, unsigned manner, const word *row, char *line)
+static word hard_weight(struct chance *c, unsigned manner, word top)
+{
+    word weights[] = {top, top + 1, MOST_TOP}, weight = manner & HEAVY ? weights[draw(c) % 3] : top;
+    return weight > MOST_TOP ? MOST_TOP : weight;
+}
+
+static void clause_line(struct chance *c, unsigned manner, const word *row, word top, char *line)
 {
     signed char literals[6 * MOST_VARIABLES];
     int count = 0;
@@ -83,7 +89,7 @@ static void clause_line(struct chance *c, unsigned manner, const word *row, char
     for (int i = 0; i < rising.count; i++)
         for (word times = manner & REPEATED ? between(c, 1, 3) : 1; times > 0; times--) literals[count++] = rising.literals[i];
     if (manner & SHUFFLED) shuffle(c, literals, count);
-    size_t at = (size_t)sprintf(line, "%" PRIu64, row[2]);
+    size_t at = (size_t)sprintf(line, "%" PRIu64, is_hard(row) ? hard_weight(c, manner, top) : row[WEIGHT]);
     for (int i = 0; i < count; i++) at += (size_t)sprintf(line + at, "%*s%d", gap(c, manner), "", literals[i]);
     put_spaced(c, manner, line + at, 0);
 }
@@ -96,7 +102,7 @@ static void competition_of(struct chance *c, struct competition *w, const struct
     if (manner & COMMENTED) add_comments(c, w, between(c, 1, 6));
     w->header = w->l.count;
     header_line(c, manner, d, top, w->l.text[w->l.count++]);
-    for (word r = 0; r < d->rows; r++) clause_line(c, manner, d->words + ROW_WORDS * r, w->l.text[w->l.count++]);
+    for (word r = 0; r < d->rows; r++) clause_line(c, manner, d->words + ROW_WORDS * r, top, w->l.text[w->l.count++]);
 }
 
 /* --- families. A search has the largest budget, so each is one that ends soon --- */
@@ -105,14 +111,14 @@ static word largest_weight(const struct draft *d)
 {
     word most = 0;
     for (word r = 0; r < d->rows; r++)
-        if (d->words[ROW_WORDS * r + 2] > most) most = d->words[ROW_WORDS * r + 2];
+        if (d->words[ROW_WORDS * r + WEIGHT] > most) most = d->words[ROW_WORDS * r + WEIGHT];
     return most;
 }
 
 static word sum_of_weights(const struct draft *d)
 {
     word all = 0;
-    for (word r = 0; r < d->rows; r++) all += d->words[ROW_WORDS * r + 2];
+    for (word r = 0; r < d->rows; r++) all += d->words[ROW_WORDS * r + WEIGHT];
     return all;
 }
 
@@ -139,6 +145,7 @@ static word draft_empty_rows(struct chance *c, struct draft *d)
 {
     d->variables = between(c, 0, 5);
     add_random_rows(c, d, between(c, 1, 30), 0, 1000);
+    if (one_in(c, 3)) harden_rows(c, d, 1);
     return 0;
 }
 
@@ -148,6 +155,7 @@ static word draft_steady(struct chance *c, struct draft *d)
     d->variables = one_in(c, 2) ? (word)MOST_VARIABLES : between(c, 1, 63);
     word rows = one_in(c, 2) ? (word)MOST_INPUT_ROWS : between(c, d->variables, MOST_INPUT_ROWS - 1);
     for (int v = 1; (word)v <= d->variables; v++) add_row(d, unit_row(one_in(c, 2) ? v : -v), MOST_INPUT_ROWS * (word)v);
+    if (one_in(c, 3)) harden_path(c, d);
     while (d->rows < rows) add_random_rows(c, d, 1, one_in(c, 50) ? (word)MOST_VARIABLES : between(c, 0, 6), 1);
     return 0;
 }
@@ -156,6 +164,7 @@ static word draft_both_ways(struct chance *c, struct draft *d)
 {
     d->variables = between(c, 1, 9);
     add_mixed_rows(c, d, between(c, 1, 12), 9);
+    harden(c, d);
     for (word i = between(c, 1, 2); i > 0; i--) {
         word *row = d->words + ROW_WORDS * (draw(c) % d->rows), one = (word)1 << draw(c) % d->variables;
         row[0] |= one;
@@ -164,15 +173,15 @@ static word draft_both_ways(struct chance *c, struct draft *d)
     return 0;
 }
 
-/* As many clauses as the front door takes, or as the reader does, of which one of the last is 5, or 6, or weighs more than the others. */
+/* As many clauses as the front door takes, or as the reader does, of which one of the last is 5, or 6, or weighs as much as top. */
 static word draft_late(struct chance *c, struct draft *d)
 {
     d->variables = between(c, 2, 6);
     add_mixed_rows(c, d, one_in(c, 4) ? MOST_LOADED : MOST_INPUT_ROWS, 9);
     word *row = d->words + ROW_WORDS * (d->rows - between(c, 1, 5)), how = draw(c) % 3;
     if (how == 0) row[draw(c) % 2] |= (word)1 << d->variables;
-    if (how == 1) row[2] = 0;
-    if (how == 2) row[2] = 10;
+    if (how == 1) row[WEIGHT] = 0;
+    if (how == 2) row[WEIGHT] = 10;
     return 0;
 }
 
@@ -191,6 +200,7 @@ static word draft_figures(struct chance *c, struct draft *d)
                                 MOST_LOADED, MOST_LOADED + 1, MOST_LOADED + 2};
     d->variables = between(c, 1, 6);
     add_mixed_rows(c, d, one_in(c, 3) ? between(c, 0, 9) : rows[draw(c) % 8], 9);
+    harden(c, d);
     if (one_in(c, 3)) d->variables = variables[draw(c) % 6];
     return 0;
 }
@@ -211,7 +221,7 @@ enum { COMPETITION_FAMILIES = sizeof competition_families / sizeof *competition_
 static const struct {
     const char *name;
     unsigned manner;
-} manners[] = {{"plain", PLAIN}, {"shuffled", SHUFFLED}, {"repeated", REPEATED}, {"commented", COMMENTED}, {"spaced", SPACED}, {"all", ALL_MANNERS}};
+} manners[] = {{"plain", PLAIN}, {"shuffled", SHUFFLED}, {"repeated", REPEATED}, {"commented", COMMENTED}, {"spaced", SPACED}, {"heavy", HEAVY}, {"all", ALL_MANNERS}};
 enum { MANNERS = sizeof manners / sizeof *manners };
 
 #include "wcnf_damage.c"
@@ -236,6 +246,7 @@ static void make_long(struct chance *c, int turn, struct competition *w, char *k
     struct draft d = {.variables = between(c, 1, 6)};
     size_t length = MOST_INPUT - 2 + (size_t)(turn % 4);
     add_mixed_rows(c, &d, between(c, 0, 30), 9);
+    harden(c, &d);
     competition_of(c, w, &d, draw_top(c, &d), ALL_MANNERS);
     lengthen(c, w, length);
     if (one_in(c, 4)) w->l.text[w->header][0] = 'P';

@@ -19,7 +19,8 @@ _Static_assert(OLIKUMPASHO_MOST_VARIABLES == MOST_VARIABLES && OLIKUMPASHO_MOST_
                    && OLIKUMPASHO_MOST_STEPS == MOST_STEPS && OLIKUMPASHO_MOST_WEIGHT == MOST_WEIGHT && OLIKUMPASHO_MOST_BUDGET == MOST_BUDGET
                    && OLIKUMPASHO_MOST_NAMED == MOST_NAMED && OLIKUMPASHO_MOST_CHAIN == MOST_LINKS && OLIKUMPASHO_MOST_INPUT == MOST_INPUT
                    && OLIKUMPASHO_MOST_INPUT_ROWS == MOST_INPUT_ROWS && OLIKUMPASHO_MOST_WRITTEN == MOST_TEXT
-                   && OLIKUMPASHO_MOST_WRITTEN_WCNF == MOST_FILE,
+                   && OLIKUMPASHO_MOST_WRITTEN_WCNF == MOST_FILE && OLIKUMPASHO_ROW_WORDS == ROW_WORDS && OLIKUMPASHO_ROW_WEIGHT == WEIGHT
+                   && OLIKUMPASHO_ROW_MARK == MARK && OLIKUMPASHO_SOFT == SOFT && OLIKUMPASHO_HARD == HARD,
                "the header's figures are not the second solver's");
 
 static const word as_found = 0x5a5a5a5a5a5a5a5a;
@@ -121,17 +122,19 @@ static size_t bytes_of(word words) { return words * sizeof(word); }
 
 /* --- the calls that the language knows --- */
 
-struct refusal weigh(struct table t, word reading, word *weight)
+struct refusal weigh(struct table t, word reading, struct weighed *weighed)
 {
-    word answer = 0;
+    word answer = 0, got[OLIKUMPASHO_WEIGHED_WORDS];
     for AT_BOTH_PLACES(place) {
         const word *words = lend_to_read(&table_room, place, t.words, bytes_of(t.count));
-        word *result = lend_results(place, 1);
+        word *result = lend_results(place, OLIKUMPASHO_WEIGHED_WORDS);
         word now = olikumpasho_weight_of(t.variables, words, t.count, reading, result);
-        agree(place, &answer, now, weight, 1, NULL, NULL);
+        agree(place, &answer, now, got, OLIKUMPASHO_WEIGHED_WORDS, NULL, NULL);
         read_back(&table_room);
     }
-    return told(answer, 1);
+    expect(answer != 0 || got[OLIKUMPASHO_WEIGHED_HOLDS] <= 1, "a word for whether hard rows hold that the header has not");
+    *weighed = (struct weighed){got[OLIKUMPASHO_WEIGHED_WEIGHT], got[OLIKUMPASHO_WEIGHED_HOLDS] == 1};
+    return told(answer, OLIKUMPASHO_WEIGHED_WORDS);
 }
 
 struct refusal load(struct lent out, struct table t, word capacity)
@@ -212,9 +215,10 @@ struct refusal search(struct lent desk, word choice, uint32_t budget, struct fou
         agree(place, &answer, olikumpasho_search(words, desk.count, choice, budget, result), got, 5, NULL, NULL);
         read_back(&desk_room);
     }
-    expect(answer != 0 || (got[0] <= 1 && got[1] <= 1), "a word for status or kept that the header has not");
+    expect(answer != 0 || (got[0] <= OLIKUMPASHO_IMPOSSIBLE && got[1] <= 1), "a word for status or kept that the header has not");
+    expect(answer != 0 || got[0] == OLIKUMPASHO_STOPPED || (got[0] == OLIKUMPASHO_DONE) == (got[1] == 1), "done without a reading, or impossible with one");
     expect(answer != 0 || got[1] == 1 || (got[2] == 0 && got[3] == 0), "weight or reading where there is none");
-    *found = (struct found){got[0] == 0, got[1] == 1, got[2], got[3], got[4]};
+    *found = (struct found){got[0] != OLIKUMPASHO_STOPPED, got[1] == 1, got[2], got[3], got[4]};
     return told(answer, 5);
 }
 

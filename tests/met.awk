@@ -1,13 +1,14 @@
 # What runs of calls have met: of each script and the answers to it beside it (SCRIPT.SUFFIX), a line `COUNT CALL OUTCOME` for each call and
 # outcome, `COUNT STEP ok` for each kind of step that was accepted, with its links, `COUNT bound, PART` for each part of a bound that is not 0,
-# and `COUNT NAME: CALL OUTCOME` where a line `# meets NAME` stood before the call. A bound or search by groups is a call of its own; one
-# right behind the same call under the other bound stands under the same NAME, and it is said where it comes to more.
+# `COUNT weight, a hard row broken`, `COUNT SEARCH impossible, WHERE` for searches that end at their root or far down, and
+# `COUNT NAME: CALL OUTCOME` where a line `# meets NAME` stood before the call. A bound or search by groups is a call of its own; one right
+# behind the same call under the other bound stands under the same NAME, and it is said where it comes to more.
 function met(what) { count[what]++ }
 function outcome(answer,   part) {
   split(answer, part, " ")
   if (part[1] == "refused") return "refused " part[2]
   if (part[1] ~ /^[0-9]+$/) return "ok"
-  if ((part[1] == "done" || part[1] == "stopped") && part[2] == "none") return part[1] " with none"
+  if (part[1] == "stopped" && part[2] == "none") return "stopped with none"
   return part[1] == "" ? "nothing" : part[1]
 }
 function step(named, words) {
@@ -22,6 +23,11 @@ function parts(call, answer,   part) {
   if (part[2] > 0) met(call ", lost")
   if (part[3] > 0) met(call ", foreseen")
   if (part[1] > 0 && part[2] > 0 && part[3] > 0) met(call ", all three")
+}
+function impossible(call, nodes) {
+  if (nodes == 1) met(call " impossible, at the root")
+  if (nodes > 20) met(call " impossible, after over 20 nodes")
+  if (nodes > 1000) met(call " impossible, after over 1,000 nodes")
 }
 # The answer by groups, and the one right before it, to the same call under the other bound.
 function beside(call, now, before,   part, other) {
@@ -58,6 +64,8 @@ BEGIN {
       met(call " " how)
       if (word[1] == "rewrite" && how == "ok") met(step(word[2], words) " ok")
       if (word[1] == "bound" && how == "ok") parts(call, answer)
+      if (word[1] == "weight" && answer ~ / broken /) met("weight, a hard row broken")
+      if (how == "impossible") { split(answer, given, " "); impossible(call, given[4]) }
       if (tag != "") met(tag ": " call " " how)
       tag = ""
     }

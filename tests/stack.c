@@ -85,12 +85,6 @@ static void expect(const char *what, void (*call)(void), unsigned number)
     exit(1);
 }
 
-/* By hand: memcpy is left to be found by the call that is looked at. */
-static void copy(volatile void *to, const volatile void *from, size_t bytes)
-{
-    for (size_t i = 0; i < bytes; i++) ((volatile unsigned char *)to)[i] = ((const volatile unsigned char *)from)[i];
-}
-
 /* The text of the table, as an input. */
 static void take_as(void (*written)(void))
 {
@@ -99,8 +93,6 @@ static void take_as(void (*written)(void))
     copy(at->text, at->output, at->size);
     at->text_size = at->size;
 }
-
-static void take_text(void) { take_as(write_text); }
 
 /* ---- the calls of each function */
 
@@ -111,6 +103,8 @@ static void weigh_them(void)
     expect("weight", weight_of, 0);
     at->reading = 0;
     expect("weight 0", weight_of, 0);
+    longest_file();
+    expect("hard rows", weight_of, 0);
     at->variables = 3;
     expect("over the count", weight_of, 5);
     at->words = 1;
@@ -123,8 +117,12 @@ static void load_them(void)
     expect("load", load, 0);
     deep_table();
     expect("load", load, 0);
-    at->table[at->words - 1]++;
+    ++*last_weight();
     expect("the sum", load, 7);
+    clashing_table();
+    expect("hard rows", load, 0);
+    ++*last_weight();
+    expect("a hard row with a weight", load, 6);
     at->desk_words = 8;
     expect("a short desk", load, 4);
 }
@@ -136,8 +134,8 @@ static void form_them(void)
     expect("a full desk", well_formed, 1);
     at->desk[1] = CAPACITY;
     expect("rows of 0s", well_formed, 1);
-    at->desk[8] = all();
-    expect("both ways", well_formed, 0);
+    at->desk[OLIKUMPASHO_DESK_ROW(CAPACITY - 1) + OLIKUMPASHO_ROW_MARK] = 2;
+    expect("a mark", well_formed, 0);
 }
 
 static void decide_them(void)
@@ -151,17 +149,6 @@ static void decide_them(void)
     at->desk_words = 7;
     expect("a short desk", decide, 10);
 }
-
-static void name(uint64_t of, const uint64_t *rows, size_t how_many)
-{
-    at->kind = of;
-    at->count = how_many;
-    copy(at->named, rows, how_many * sizeof *rows);
-}
-
-static const uint64_t a_pair[] = {1, 13};
-static const uint64_t a_chain[] = {0, 1, 2, 3, 4, 5, 6, 7, 8, 9};
-static const uint64_t a_fork[] = {0, 1, 2, 3, 4, 5, 6, 7, 8, 10, 11, 12};
 
 static void rewrite_them(void)
 {
@@ -211,7 +198,7 @@ static void take_them_back(void)
     aside(rewrite);
     expect("a merge", take_back, 0);
     aside(rewrite);
-    at->desk[8 + 3 * CAPACITY] = 9;
+    at->desk[OLIKUMPASHO_DESK_ENTRY(CAPACITY, 0)] = 9;
     expect("a bad entry", take_back, 10);
 }
 
@@ -245,6 +232,11 @@ static void search_by(uint64_t choice)
     for (at->budget = 0; at->budget <= 130; at->budget++) expect("search", search, 0);
     if (at->result[OLIKUMPASHO_FOUND_STATUS] != OLIKUMPASHO_DONE || at->result[OLIKUMPASHO_FOUND_NODES] != 2 * VARIABLES + 1)
         fail("search: not down to the last variable");
+    clashing_table();
+    aside(load);
+    expect("impossible", search, 0);
+    if (at->result[OLIKUMPASHO_FOUND_STATUS] != OLIKUMPASHO_IMPOSSIBLE || at->result[OLIKUMPASHO_FOUND_NODES] != 2 * VARIABLES + 1)
+        fail("search: not down to the last variable by hard rows");
 }
 
 static void search_them(void)
@@ -258,7 +250,7 @@ static void search_them(void)
 static void read_them(void)
 {
     longest_table();
-    take_text();
+    take_as(write_text);
     at->words = sizeof at->table / sizeof *at->table;
     expect("read", read_text, 0);
     at->words--;
@@ -286,7 +278,7 @@ static void answer_them(void)
 {
     deep_table();
     for (at->budget = VARIABLES - 1; at->budget <= 2 * VARIABLES + 2; at->budget++) {
-        take_text();
+        take_as(write_text);
         expect("answer", answer_text, 0);
     }
     at->room = 10;
@@ -300,7 +292,7 @@ static void answer_them(void)
 
 static void read_files(void)
 {
-    longest_table();
+    longest_file();
     take_as(write_file);
     at->words = sizeof at->table / sizeof *at->table;
     expect("read_wcnf", read_file, 0);
@@ -315,7 +307,7 @@ static void read_files(void)
 
 static void write_files(void)
 {
-    longest_table();
+    longest_file();
     at->room = sizeof at->output;
     expect("write_wcnf", write_file, 0);
     if (at->size != OLIKUMPASHO_MOST_WRITTEN_WCNF) fail("write_wcnf: the longest text is not as long as the header says");

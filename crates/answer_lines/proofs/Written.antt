@@ -1,5 +1,5 @@
 -- The lines of an answer as the bytes that are stored for them, by case, and how long the first two of a search can be.
-use Prim.Native.Nat.{ℕ, _≤_}
+use Prim.Native.Nat.{ℕ, _+_, _≤_}
 use mathlib.Core.Path.{_≡_, refl}
 use mathlib.Core.List.{_++_}
 use native.Mathlib.Omega.{arith}
@@ -16,7 +16,7 @@ use Rattle.rules.specs.Program.{refusalText, statusText, weightText, readingTex
 use Rattle.text_laws.specs.Keys.{weightKey}
 use Rattle.text_laws.specs.Pieces.{lineText}
 use Rattle.text_laws.proofs.Pieces.{line-length}
-use Rattle.answer_lines.specs.Keys.{refusedLine, doneLine, stoppedLine, noWeightLine, numberKey, placeKey, nodesKey}
+use Rattle.answer_lines.specs.Keys.{refusedLine, doneLine, stoppedLine, impossibleLine, noWeightLine, numberKey, placeKey, nodesKey}
 use Rattle.answer_lines.specs.Keys.{concededKey, lostKey, foreseenKey}
 use Rattle.answer_lines.specs.Lengths.{mostStatusLine, mostWeightLine, mostLossesLines}
 
@@ -34,6 +34,10 @@ status-done s e = rw e
 pub status-stopped : (s : Status) → s ≡ Status.Stopped → line "status=" (statusText s) ≡ stoppedLine
 unfolding line bytes
 status-stopped s e = rw e
+
+pub status-impossible : (s : Status) → s ≡ Status.Impossible → line "status=" (statusText s) ≡ impossibleLine
+unfolding line bytes
+status-impossible s e = rw e
 
 pub weight-none : (b : Best) → b ≡ Best.Nothing → line "weight=" (weightText b) ≡ noWeightLine
 unfolding line bytes
@@ -64,11 +68,19 @@ pub status-length : (s : Status) → length (line "status=" (statusText s)) ≤ 
 unfolding line bytes
 status-length Status.Done = omega arith
 status-length Status.Stopped = omega arith
+status-length Status.Impossible = omega arith
 
 pub weight-length : (b : Best) → length (line "weight=" (weightText b)) ≤ mostWeightLine
 unfolding line bytes lineText
 weight-length Best.Nothing = omega arith
 weight-length (Best.Reading w r) = line-length weightKey w
+
+-- together: impossible is the longest, but has no weight
+pub two-length : (s : Status) (b : Best) → (s ≡ Status.Impossible → b ≡ Best.Nothing)
+    → length (line "status=" (statusText s)) + length (line "weight=" (weightText b)) ≤ length stoppedLine + mostWeightLine
+two-length Status.Done b h = rw (status-done Status.Done refl) (omega (arith, weight-length b))
+two-length Status.Stopped b h = rw (status-stopped Status.Stopped refl) (omega (arith, weight-length b))
+two-length Status.Impossible b h = rw (status-impossible Status.Impossible refl, weight-none b (h refl)) (omega arith)
 
 pub losses-length : (l : Losses) → length (lossesText l) ≤ mostLossesLines
 losses-length l =

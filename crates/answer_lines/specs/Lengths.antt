@@ -4,10 +4,10 @@ use lib.ListN.{length}
 use Rattle.text_laws.specs.Keys.{weightKey}
 use Rattle.text_laws.specs.Lengths.{mostNumberEnd}
 use Rattle.readings.specs.Line.{mostReadingLine}
-use Rattle.answer_lines.specs.Keys.{stoppedLine, nodesKey, concededKey, lostKey, foreseenKey}
+use Rattle.answer_lines.specs.Keys.{stoppedLine, impossibleLine, nodesKey, concededKey, lostKey, foreseenKey}
 
 abbrev pub mostStatusLine : ℕ
-mostStatusLine = length stoppedLine
+mostStatusLine = length impossibleLine
 
 abbrev pub mostWeightLine : ℕ
 mostWeightLine = length weightKey + mostNumberEnd
@@ -18,6 +18,6 @@ mostNodesLine = length nodesKey + mostNumberEnd
 abbrev pub mostLossesLines : ℕ
 mostLossesLines = (length concededKey + mostNumberEnd) + ((length lostKey + mostNumberEnd) + (length foreseenKey + mostNumberEnd))
 
--- a search's lines: a refusal's are shorter
+-- the lines of a search with a reading: a refusal's are shorter, and so are those of one that has none
 abbrev pub mostAnswer : ℕ
-mostAnswer = mostStatusLine + (mostWeightLine + (mostNodesLine + (mostReadingLine + mostLossesLines)))
+mostAnswer = length stoppedLine + (mostWeightLine + (mostNodesLine + (mostReadingLine + mostLossesLines)))

@@ -31,6 +31,7 @@ fn put_status(out: &mut [u8], status: Status) -> usize
     match status {
         Status::Done => inner::put_key(out, 0, b"status=done\n"),
         Status::Stopped => inner::put_key(out, 0, b"status=stopped\n"),
+        Status::Impossible => inner::put_key(out, 0, b"status=impossible\n"),
     }
 }
 

@@ -7,15 +7,9 @@ use lib.ListN.{length, getD}
 use Rattle.masks.specs.Masks.{has}
 use Rattle.masks.specs.Sums.{sum}
 use Rattle.literals.specs.Literal.{mostVariables}
-use Rattle.literals.specs.Lits.{isEmpty}
 use Rattle.rules.specs.declared.Part.{Part}
 use Rattle.rules.specs.Desk.{rowOn}
-use Rattle.rules.specs.Bound.{weightWhere}
 use Rattle.units.specs.Adds.{sumWords, rowAdds}
-
--- what is lost of the first n rows
-abbrev pub lostOf : List ℕ → Part → ℕ → ℕ
-lostOf d p n = sum n (λ i. weightWhere isEmpty p (rowOn d i))
 
 -- each of the sums is that of the first n rows
 pub record Gathered (d : List ℕ) (p : Part) (n : ℕ) (sums : List ℕ) : Type 0 where

@@ -1,7 +1,5 @@
 // The bound of a desk: lost, and what is foreseen, by the units of each undecided variable or by groups.
 ghost use mathlib.Core.Path.{_≡_};
-ghost use Prim.Native.Nat.{_≤_};
-ghost use Rattle.rules.specs.Desk.{inUse, mostCapacity};
 ghost use Rattle.rules.specs.Choice.{lossesBy, bounded};
 ghost use Rattle.desk_laws.specs.Readable.{Readable};
 use formed::well_formed;
@@ -17,7 +15,6 @@ pub mod inner;
 // Conceded, lost beyond that and foreseen, by the bound that is chosen. A hunt for groups works in words of its own.
 fn losses_by(desk: &[u64], choice: Choice, p: Part) -> Losses
     requires { ⌜ Readable (now desk) ⌝ }
-    requires { ⌜ inUse (now desk) ≤ mostCapacity ⌝ }
     ensures { λ r. ⌜ r ≡ lossesBy choice (now (desk .entry)) p ⌝ }
 {
     match choice {

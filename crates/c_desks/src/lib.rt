@@ -7,21 +7,22 @@ ghost use Rattle.telling.specs.Told.{told, byWeighed, weightOut};
 use rules::Judged;
 use rules::Weighed;
 use telling::inner::tell;
+use telling::weighed_words;
 
 #[no_mangle]
 pub extern "C" fn olikumpasho_weight_of(
     variables: u64,
     table: &[u64],
     reading: u64,
-    weight: &mut u64,
+    found: &mut [u64; 2],
 ) -> u64
     ensures answer { λ r. ⌜ r ≡ told (byWeighed (weighed variables (now (table .entry)) reading)) ⌝ }
-    ensures lent { λ _. ⌜ now (weight .exit) ≡ weightOut (weighed variables (now (table .entry)) reading) (now (weight .entry)) ⌝ }
+    ensures lent { λ _. ⌜ now (found .exit) ≡ weightOut (weighed variables (now (table .entry)) reading) (now (found .entry)) ⌝ }
 {
     match tables::weight_of(variables, table, reading) {
         Weighed::Refused(r) => tell(Judged::Refused(r)),
-        Weighed::Weight(w) => {
-            *weight = w;
+        Weighed::Weight { weight, hold } => {
+            *found = weighed_words(weight, hold);
             0
         }
     }

@@ -9,7 +9,7 @@ use rules::TextRead;
 use rules::Written;
 
 // One byte more than the longest text of an admissible table.
-const ROOM: usize = 545_688;
+const ROOM: usize = 560_024;
 
 const TABLE: usize = Row::WORDS * Row::MOST;
 

@@ -29,7 +29,7 @@ use Rattle.rules.specs.WcnfReader.{wcnfReadWhy, wcnfWords, wcnfTable}
 use Rattle.rules.specs.WcnfProgram.{wcnfAnswer}
 use Rattle.rules.specs.Calls.{Call, afterCalls}
 use Rattle.step_laws.specs.Standing.{standingCalls, AllFine, LoadsRefused}
-use Rattle.step_laws.proofs.Runs.{run-weighs, run-standing, run-never-ten, run-formed}
+use Rattle.step_laws.proofs.Runs.{run-weighs, run-standing, run-never-ten, run-formed, run-hard}
 use Rattle.step_laws.proofs.Replays.{run-again, run-accepted-again, run-untouched, run-masks}
 use Rattle.text_laws.proofs.LentBytes.{text-fine, text-written}
 use Rattle.text_laws.proofs.RoundTrip.{round-trip}
@@ -43,7 +43,9 @@ use Rattle.demands.proofs.Refusing.{exactly}
 use Rattle.demands.proofs.Lines.{says-judged, read-back, by-lines}
 use Rattle.demands.proofs.Competing.{says-judged as file-judged, competition}
 use Rattle.demands.proofs.Rewriting.{rewriting, judges}
-use Rattle.demands.proofs.Searching.{search-finished, search-stopped, readings-in-order, search-stop-rule}
+use Rattle.demands.proofs.HardRows.{hard-kept}
+use Rattle.demands.proofs.Searching.{search-finished, search-impossible, search-ended, node-cut, readings-in-order, search-stopped}
+use Rattle.demands.proofs.Searching.{search-stop-rule}
 
 -- ---- demand 1
 
@@ -118,6 +120,9 @@ pub demand-2 : Demand2
 demand-2 =
     record {
       finished = search-finished;
+      noReading = search-impossible;
+      ended = search-ended;
+      cuts = node-cut;
       stopped = search-stopped;
       inOrder = readings-in-order;
       stopRule = search-stop-rule;
@@ -155,6 +160,7 @@ run-kept n table c d fine calls loads =
     let masks = run-masks n table c d fine calls loads in
     record {
       weights = weights;
+      hardRows = hard-kept n table c d fine after (run-hard n table c d fine calls loads);
       replayed = λ fresh ok.
           run-again n table c d fresh fine ok calls loads
           ∙ ap (λ (x : List ℕ). take (deskWords c) (afterCalls x steps)) (sym (load-laid n table c fresh ok));

@@ -1,5 +1,6 @@
 pub mod Refusing
 pub mod Rewriting
+pub mod HardRows
 pub mod Searching
 pub mod Lines
 pub mod Competing

@@ -16,6 +16,7 @@ use Rattle.literals.specs.Lits.{noLits}
 use Rattle.rules.specs.declared.Refusal.the-variants.{BadFit, DeskFull}
 use Rattle.rules.specs.declared.Judged.the-variants.{Fine}
 use Rattle.rules.specs.Refusals.{refuse}
+use Rattle.rules.specs.Table.{markedRow, withWeight}
 use Rattle.rules.specs.Desk.{inUse, capacity, standing, entryWords, rowPlace, entryPlace, rowOn}
 use Rattle.rules.specs.Rewrite.{wellFitted, given, lightest, rewritingEntry, rewriteWhy, rewriteDesk}
 use Rattle.rules.specs.Steps.{wellNamed, remnantOf, reweighed, stored, empties}
@@ -64,7 +65,7 @@ module _ (d : List ℕ) (kind : ℕ) (named : List ℕ) (fine : rewriteWhy d kin
   some : 1 ≤ length named
   some = some-named kind (length named) (ok .known .0) (ok .known .1) (ok .counted)
 
-  loses : (i : ℕ) → i < length named → rowOn after (row i) ≡ record { lits = rowOn d (row i) .lits; weight = rowOn d (row i) .weight - w }
+  loses : (i : ℕ) → i < length named → rowOn after (row i) ≡ withWeight (rowOn d (row i)) (rowOn d (row i) .weight - w)
   unfolding rowsAfter
   loses i l =
       let used = p .used i l in
@@ -72,7 +73,7 @@ module _ (d : List ℕ) (kind : ℕ) (named : List ℕ) (fine : rewriteWhy d kin
       ∙ laid-before lighter (inUse d) w new (row i) used
       ∙ reweighed-at (λ x. x - w) row d (length named) (p .apart) i l (rows-inside (p .desk) (suc (row i)) (omega (arith, p .space)))
 
-  news : (j : ℕ) → j < length new → rowOn after (inUse d + j) ≡ record { lits = getD new j noLits; weight = w }
+  news : (j : ℕ) → j < length new → rowOn after (inUse d + j) ≡ markedRow (getD new j noLits) w 0
   unfolding rowsAfter
   news j l =
       let long : rowPlace (inUse d + length new) ≤ length lighter =
@@ -87,7 +88,7 @@ module _ (d : List ℕ) (kind : ℕ) (named : List ℕ) (fine : rewriteWhy d kin
 
   -- its line, and no other
   line : FitsALine d kind named (given d kind named)
-  line = record { unspent = ok .weighty; unsatisfied = ok .unsatisfied; line = rewrite-in-words d kind named fine }
+  line = record { soft = ok .soft; unspent = ok .weighty; unsatisfied = ok .unsatisfied; line = rewrite-in-words d kind named fine }
 
   only : (other : List Lits) → FitsALine d kind named other → other ≡ given d kind named
   unfolding given

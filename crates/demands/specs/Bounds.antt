@@ -16,10 +16,11 @@ pub record BoundsCompared : Type 0 where
   -- the bound by groups is never below the bound of document 01
   pub neverBelow : (d : List ℕ) (units groups : Losses) → bounded d Choice.Units ≡ Bounded.Bound units → bounded d Choice.Groups ≡ Bounded.Bound groups
       → total units ≤ total groups
-  -- so that a search by groups is done wherever the other is, with no more nodes
+  -- so that a search by groups is done, or impossible, wherever the other is, with no more nodes
   pub noMoreNodes : (d : List ℕ) (budget : ℕ) (units groups : Found) → searched d Choice.Units budget ≡ Searched.Found units
-      → searched d Choice.Groups budget ≡ Searched.Found groups → units .status ≡ Status.Done
-      → (groups .status ≡ Status.Done) × (groups .nodes ≤ units .nodes)
-  -- searches that are done answer the same reading and weight, whatever the bound and the budget of each
+      → searched d Choice.Groups budget ≡ Searched.Found groups → (units .status ≡ Status.Stopped → ⊥)
+      → (groups .status ≡ units .status) × (groups .nodes ≤ units .nodes)
+  -- searches that are not stopped answer the same status, reading and weight, whatever the bound and the budget of each
   pub sameReading : (d : List ℕ) (one other : Choice) (budget more : ℕ) (f g : Found) → searched d one budget ≡ Searched.Found f
-      → searched d other more ≡ Searched.Found g → f .status ≡ Status.Done → g .status ≡ Status.Done → f .best ≡ g .best
+      → searched d other more ≡ Searched.Found g → (f .status ≡ Status.Stopped → ⊥) → (g .status ≡ Status.Stopped → ⊥)
+      → (f .status ≡ g .status) × (f .best ≡ g .best)

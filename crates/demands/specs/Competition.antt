@@ -29,7 +29,8 @@ pub record Competition : Type 0 where
   pub readsBack : (n : ℕ) (table lent : List ℕ) → tableWhy n table ≡ Fine → length table ≤ length lent
       → (wcnfRead mostRows (wcnfText n table) (length lent) ≡ WcnfRead.Table n (rowCount table))
       × (wcnfTable mostRows (wcnfText n table) lent ≡ table ++ drop (length table) lent)
-  -- "A broken, missing or surplus line is 20 with its line. After the header come 1, 2 and 4 by its figures; then line by line 20, 5, 21"
+  -- "A broken, missing or surplus line is 20 with its line. After the header come 1, 2 and 4 by its figures; then line by line 20, 5, 21";
+  -- C-16: "drops 21"
   pub exactly : Exactly readerWhy
   -- "Literals come in any order; one given twice counts once."
   pub makes : (most : ℕ) (f : Form) (lent : List ℕ) → Held f → readerWhy most (formText f) (length lent) ≡ Fine

@@ -36,8 +36,9 @@ use Rattle.rules.specs.WcnfProgram.{wcnfAnswerWhy, wcnfAnswerOut}
 use Rattle.rules.specs.Calls.{Call, afterCalls}
 use Rattle.step_laws.specs.Standing.{standingCalls, AllFine, NeverTen, LoadsRefused, decidedBy, trueBy}
 use Rattle.telling.specs.Told.{told, mostPlace, toldNear, byTextRead}
-use Rattle.demands.specs.Searches.{Finished, Stopped, InOrder, StopRule}
+use Rattle.demands.specs.Searches.{Finished, NoReading, Ended, CutWhere, Stopped, InOrder, StopRule}
 use Rattle.demands.specs.Rewritings.{Rewritten, Judging}
+use Rattle.demands.specs.HardRows.{HardKept}
 use Rattle.demands.specs.Lines.{ByLines}
 use Rattle.demands.specs.Competition.{readerWhy, Competition}
 use Rattle.demands.specs.Orders.{ExactlyWhen}
@@ -75,8 +76,17 @@ pub record Demand1 : Type 0 where
 pub record Demand2 : Type 0 where
   -- "A finished search gives the smallest weight .., and of those the first, true before false."
   -- document 02, C-14: "Demand 2 holds under either [bound]; counts and stopped answers read from the one chosen."
+  -- document 02, C-16: 'In demand 2 "all readings" becomes those that satisfy every hard row'
   pub finished : (d : List ℕ) (choice : Choice) (budget : ℕ) (f : Found) → searched d choice budget ≡ Searched.Found f → f .status ≡ Status.Done
       → Finished d f
+  -- document 02, C-16: "A finished search with no reading answers `status=impossible`, weight and reading none."
+  pub noReading : (d : List ℕ) (choice : Choice) (budget : ℕ) (f : Found) → searched d choice budget ≡ Searched.Found f
+      → f .status ≡ Status.Impossible → NoReading d f
+  -- a search that is not stopped is finished: done where there is a reading to find, and impossible where there is none
+  pub ended : (d : List ℕ) (choice : Choice) (budget : ℕ) (f : Found) → searched d choice budget ≡ Searched.Found f
+      → (f .status ≡ Status.Stopped → ⊥) → Ended d f
+  -- document 02, C-16: "The walk cuts a node where an unsatisfied hard row has an empty remnant"
+  pub cuts : (d : List ℕ) (choice : Choice) → wellFormed d ≡ true → CutWhere d choice
   -- "A stopped one says so, with the best reading that document 01's walk met by that count."
   pub stopped : (d : List ℕ) (choice : Choice) (budget : ℕ) (f : Found) → searched d choice budget ≡ Searched.Found f → f .status ≡ Status.Stopped
       → Stopped d choice budget f
@@ -109,6 +119,8 @@ pub record Demand2 : Type 0 where
 pub record Kept (n : ℕ) (table : List ℕ) (c : ℕ) (d : List ℕ) (calls : List Call) (start after : List ℕ) : Type 0 where
   -- "Every full reading that keeps the standing decisions weighs on the desk exactly what it weighed in the table loaded."
   pub weights : (full : ℕ) → keeps after full ≡ true → deskWeighs after full ≡ weighs table full
+  -- document 02, C-16: "in demand 3 the hard rows broken are also those broken in the load"; of every full reading
+  pub hardRows : HardKept table after
   -- "The desk equals, word for word, a fresh load with the same row capacity followed by the standing steps alone": whatever words are lent to that load
   pub replayed : (fresh : List ℕ) → loadWhy n table c fresh ≡ Fine
       → take (deskWords c) after ≡ take (deskWords c) (afterCalls (loadDesk n table c fresh) (standingCalls start calls))
@@ -119,7 +131,8 @@ pub record Kept (n : ℕ) (table : List ℕ) (c : ℕ) (d : List ℕ) (calls : L
   pub trueStand : truths after ≡ trueBy (standingCalls start calls)
   -- "words past it are never touched"
   pub untouched : drop (deskWords c) after ≡ drop (deskWords c) d
-  -- "The bound never exceeds the least weight of such a reading." Neither of the two does.
+  -- "The bound never exceeds the least weight of such a reading." Neither of the two does; so not of those that satisfy every hard row too, of which
+  -- document 02, C-16, says it: "the bound's claim holds where such a reading exists".
   pub bounds : (choice : Choice) (full : ℕ) (l : Losses) → bounded after choice ≡ Bounded.Bound l → keeps after full ≡ true → total l ≤ weighs table full
   -- no call of the run gave a 10, and neither do bound and search after it
   pub neverTen : NeverTen start calls

@@ -1,6 +1,7 @@
 pub mod Orders
 pub mod Searches
 pub mod Rewritings
+pub mod HardRows
 pub mod Lines
 pub mod Competition
 pub mod Losses

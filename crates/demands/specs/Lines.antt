@@ -38,7 +38,7 @@ pub record ByLines : Type 0 where
       → text ++ more ≡ tableText variables budget table → (k : ℕ) → FirstBroken text k → (bytes : List ℕ) → lineAt k text ≡ ended bytes → ⊥
   -- "Nothing follows the last row."
   pub nothingFollows : (variables budget : ℕ) (table more : List ℕ) → Held variables budget table → 0 < length more
-      → FirstBroken (tableText variables budget table ++ more) (4 + 2 * rowCount table)
+      → FirstBroken (tableText variables budget table ++ more) (4 + 3 * rowCount table)
   -- "it judges neither weights nor literals against the count": whatever the form holds is read, within the limits of its figures
   pub readsHeld : (most variables budget : ℕ) (table lent : List ℕ) → Held variables budget table
       → firstDue (figuresOrder most (length lent) variables budget (rowCount table)) ≡ Fine

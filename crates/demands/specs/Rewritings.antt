@@ -11,11 +11,13 @@ use Rattle.rules.specs.declared.Judged.{Judged}
 use Rattle.rules.specs.declared.Judged.the-variants.{Fine, Refused}
 use Rattle.rules.specs.declared.Refusal.the-variants.{BadDesk, TooManySteps, BadNaming, BadFit, DeskFull}
 use Rattle.rules.specs.Refusals.{_when_, asIn, firstDue}
+use Rattle.rules.specs.Table.{markedRow, withWeight}
 use Rattle.rules.specs.Desk.{inUse, capacity, standing, conceded, mostSteps, rowPlace, entryPlace, rowOn, wellFormed}
 use Rattle.rules.specs.Steps.{wellNamed, stored, empties}
 use Rattle.step_laws.specs.StepTable.{FitsALine}
 
--- "14: a named row spent or satisfied, or the remnants don't fit"; "15: the new rows don't fit the desk", in the words of the step table
+-- "14: a named row spent or satisfied, or the remnants don't fit"; "Rewritings refuse hard rows with 14"; "15: the new rows don't fit the desk", in the
+-- words of the step table
 pub data Fitting (d : List ℕ) (kind : ℕ) (named : List ℕ) : Judged → Type 0 where
   fourteen : ((gives : List Lits) → FitsALine d kind named gives → ⊥) → Fitting d kind named (Refused BadFit)
   fifteen : (gives : List Lits) → FitsALine d kind named gives → capacity d < inUse d + length (stored gives) → Fitting d kind named (Refused DeskFull)
@@ -47,11 +49,11 @@ pub record Rewritten (d : List ℕ) (kind : ℕ) (named after : List ℕ) : Type
   pub gives : List Lits
   pub fits : FitsALine d kind named gives
   pub fitsOnly : (other : List Lits) → FitsALine d kind named other → other ≡ gives
-  -- "Each named row loses w"
+  -- "Each named row loses w", and nothing else
   pub loses : (i : ℕ) → i < length named
-      → rowOn after (getD named i 0) ≡ record { lits = rowOn d (getD named i 0) .lits; weight = rowOn d (getD named i 0) .weight - w }
-  -- "new rows have weight w and hold only the literals shown", "New rows take the next row numbers"
-  pub news : (j : ℕ) → j < length (stored gives) → rowOn after (inUse d + j) ≡ record { lits = getD (stored gives) j noLits; weight = w }
+      → rowOn after (getD named i 0) ≡ withWeight (rowOn d (getD named i 0)) (rowOn d (getD named i 0) .weight - w)
+  -- "new rows have weight w and hold only the literals shown", "New rows take the next row numbers"; "new rows are soft"
+  pub news : (j : ℕ) → j < length (stored gives) → rowOn after (inUse d + j) ≡ markedRow (getD (stored gives) j noLits) w 0
   pub inUseAfter : inUse after ≡ inUse d + length (stored gives)
   -- "an empty one is not stored, but adds w to conceded"
   pub concededAfter : conceded after ≡ conceded d + w * empties gives

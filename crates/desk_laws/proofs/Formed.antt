@@ -4,7 +4,7 @@
 use Prim.Native.Nat.{ℕ, suc, _+_, _≤_, _<_, _^_}
 use mathlib.Core.Path.{_≡_}
 use mathlib.Core.List.{List}
-use mathlib.Core.Bool.{Bool, true, false, not, _&&_, and-eq-true-iff}
+use mathlib.Core.Bool.{Bool, true, false, not, _&&_, _||_, and-eq-true-iff}
 use native.Mathlib.Nat.{lt-of-lt-of-le}
 use native.Mathlib.Omega.{arith}
 use borrow.Author.Tests.{leb-true, le-leb, not-true, not-false}
@@ -20,7 +20,7 @@ use Rattle.masks.proofs.Sums.{every-at, every-true}
 use Rattle.literals.specs.declared.Lits.{Lits}
 use Rattle.literals.specs.Literal.{mostVariables}
 use Rattle.literals.proofs.TwoMasks.{Held}
-use Rattle.rules.specs.Table.{rowWords, mostRows, mostWeight, badLits}
+use Rattle.rules.specs.Table.{rowWords, mostRows, mostWeight, badLits, badMark}
 use Rattle.rules.specs.Desk.{headWords, mostCapacity, mostSteps, variables, inUse, capacity, standing, decided, truths, loaded, rowPlace, deskWords}
 use Rattle.rules.specs.Desk.{rowOn, weightOn, reaches, inLimits, rowsSound, weightFits, masksNest, wellFormed}
 
@@ -39,6 +39,7 @@ pub record Formed (d : List ℕ) : Type 0 where
   pub fitting : inUse d ≤ capacity d
   pub steps : standing d ≤ mostSteps
   pub sound : (i : ℕ) → i < inUse d → Sound (variables d) (rowOn d i .lits)
+  pub marked : (i : ℕ) → i < inUse d → badMark (rowOn d i) ≡ false
   pub light : weightOn d ≤ mostWeight
   pub nested : without (truths d) (decided d) ≡ 0
   pub within : decided d < 2 ^ variables d
@@ -68,6 +69,12 @@ of-sound {n} {l} s = rw (none-zero (s .once), lt-below n (s .positives), lt-belo
 
 -- ---- desks
 
+row-sound : (d : List ℕ) → rowsSound d ≡ true → (i : ℕ) → i < inUse d → (badLits (variables d) (rowOn d i .lits) || badMark (rowOn d i)) ≡ false
+unfolding rowsSound
+row-sound d e i h =
+    not-true (badLits (variables d) (rowOn d i .lits) || badMark (rowOn d i))
+    (every-at (inUse d) (λ j. not (badLits (variables d) (rowOn d j .lits) || badMark (rowOn d j))) e i h)
+
 pub formed : (d : List ℕ) → wellFormed d ≡ true → Formed d
 unfolding wellFormed reaches inLimits rowsSound weightFits masksNest
 formed d e =
@@ -91,9 +98,9 @@ formed d e =
       kept = leb-true (loaded d) (inUse d) (l3 .0);
       fitting = leb-true (inUse d) (capacity d) (l4 .0);
       steps = leb-true (standing d) mostSteps (l4 .1);
-      sound =
-          λ i h. sound-of (variables d) (rowOn d i .lits)
-          (not-true (badLits (variables d) (rowOn d i .lits)) (every-at (inUse d) (λ j. not (badLits (variables d) (rowOn d j .lits))) (c .0) i h));
+      sound = λ i h.
+          sound-of (variables d) (rowOn d i .lits) (or-none (badLits (variables d) (rowOn d i .lits)) (badMark (rowOn d i)) (row-sound d (c .0) i h) .0);
+      marked = λ i h. or-none (badLits (variables d) (rowOn d i .lits)) (badMark (rowOn d i)) (row-sound d (c .0) i h) .1;
       light = leb-true (weightOn d) mostWeight (s .0);
       nested = zero-none (without (truths d) (decided d)) (m .0);
       within = below-lt (decided d) (variables d) (m .1);
@@ -107,7 +114,7 @@ well {d} f =
     (both (le-leb (loaded d) mostRows (f .loads))
     (both (le-leb (loaded d) (inUse d) (f .kept))
     (both (le-leb (inUse d) (capacity d) (f .fitting)) (le-leb (standing d) mostSteps (f .steps))))))
-    (both (every-true (inUse d) (λ i h. rw (of-sound (f .sound i h))))
+    (both (every-true (inUse d) (λ i h. rw (of-sound (f .sound i h), f .marked i h)))
     (both (le-leb (weightOn d) mostWeight (f .light))
     (both (none-zero (f .nested)) (lt-below (variables d) (f .within))))))
 

@@ -6,3 +6,4 @@ pub mod Readings
 pub mod Verdicts
 pub mod Alike
 pub mod Readable
+pub mod Charged

@@ -25,7 +25,7 @@ pub readable : (d : List ℕ) → wellFormed d ≡ true → Readable d
 unfolding deskWords rowPlace
 readable d h =
     let f = formed d h in
-    record { rows = omega (arith, f .reaching, f .fitting); weights = f .light; bits = f .named }
+    record { rows = omega (arith, f .reaching, f .fitting); few = omega (arith, f .roomy, f .fitting); weights = f .light; bits = f .named }
 
 -- and so can its front that ends behind its rows in use
 pub readable-front : {d : List ℕ} → Readable d → (n : ℕ) → rowPlace (inUse d) ≤ n → n ≤ length d → Readable (take n d)
@@ -35,17 +35,14 @@ readable-front {d} r n behind within =
     let used = alike .heads 1 (omega arith) in
     record {
       rows = omega (arith, length-take-le n d within);
+      few = omega (arith, used, r .few);
       weights = rw (weight-alike alike) (r .weights);
       bits = rw (alike .heads 0 (omega arith)) (r .bits);
     }
 
--- the rows in use of a well-formed desk are no more than any desk has room for
-pub used-most : (d : List ℕ) → wellFormed d ≡ true → inUse d ≤ mostCapacity
-used-most d h = let f = formed d h in omega (arith, f .roomy, f .fitting)
-
 -- ---- no sum of weights wraps
 
-where-le : (test : Lits → Bool) (p : Part) (row : Row) → weightWhere test p row ≤ row .weight
+pub where-le : (test : Lits → Bool) (p : Part) (row : Row) → weightWhere test p row ≤ row .weight
 unfolding weightWhere
 where-le test p row =
     cond-elim (λ (x : ℕ). x ≤ row .weight) (not (satisfied p (row .lits)) && test (remnant p (row .lits))) (row .weight) 0 (λ t. omega arith) (λ t. omega arith)

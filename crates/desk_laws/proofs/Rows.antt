@@ -22,7 +22,8 @@ row-of-words d e at bt h =
     let a : getD e bt 0 ≡ getD d at 0 = rw (add-zero bt, add-zero at) at (h 0 (omega arith)) in
     let b = h 1 (omega arith) in
     let c = h 2 (omega arith) in
-    λ t. record { lits = record { positive = a t; negative = b t }; weight = c t }
+    let m = h 3 (omega arith) in
+    λ t. record { lits = record { positive = a t; negative = b t }; weight = c t; mark = m t }
 
 -- a row stored is the row read
 pub row-stored : (d : List ℕ) (at : ℕ) (row : Row) → at + rowWords ≤ length d → rowIn (sets d at (rowWordsOf row)) at ≡ row
@@ -31,7 +32,8 @@ row-stored d at row h =
     let a : getD (sets d at (rowWordsOf row)) at 0 ≡ row .lits .positive = rw (add-zero at) at (sets-at d at (rowWordsOf row) 0 0 (omega arith) h) in
     let b = sets-at d at (rowWordsOf row) 1 0 (omega arith) h in
     let c = sets-at d at (rowWordsOf row) 2 0 (omega arith) h in
-    λ t. record { lits = record { positive = a t; negative = b t }; weight = c t }
+    let m = sets-at d at (rowWordsOf row) 3 0 (omega arith) h in
+    λ t. record { lits = record { positive = a t; negative = b t }; weight = c t; mark = m t }
 
 -- the words of the row read
 pub words-of-row : (d : List ℕ) (at k : ℕ) → k < rowWords → getD (rowWordsOf (rowIn d at)) k 0 ≡ getD d (at + k) 0
@@ -39,4 +41,5 @@ unfolding rowIn rowWordsOf
 words-of-row d at zero h = rw (add-zero at)
 words-of-row d at (suc zero) h = refl
 words-of-row d at (suc (suc zero)) h = refl
-words-of-row d at (suc (suc (suc k))) h = absurd (omega arith)
+words-of-row d at (suc (suc (suc zero))) h = refl
+words-of-row d at (suc (suc (suc (suc k)))) h = absurd (omega arith)

@@ -4,18 +4,20 @@
 use Prim.Native.Nat.{ℕ, zero, suc, _+_, _-_, _/_, _≤_, _<_}
 use mathlib.Core.Path.{_≡_, refl, sym, ap, _∙_}
 use mathlib.Core.Logic.{_⊎_, inl, inr, ⊎-elim}
+use mathlib.Core.Bool.{false}
 use mathlib.Core.List.{List, [], _∷_}
 use native.Mathlib.Nat.{le-step, le-refl, le-trans, eq-or-lt-of-le, le-of-suc-le-suc, add-zero}
 use native.Mathlib.Omega.{arith}
 use lib.ListN.{length, getD, set}
 use lib.Seq.{sets, length-sets, getD-set-other}
-use Rattle.masks.proofs.Choice.{lt-or-le, eq-or-ne}
+use lib.Dec.{ltb}
+use Rattle.masks.proofs.Choice.{lt-or-le, eq-or-ne, or-none}
 use Rattle.masks.proofs.Words.{sets-before, sets-out}
 use Rattle.masks.proofs.Sums.{downwards, upwards}
 use Rattle.literals.specs.declared.Lits.{Lits}
 use Rattle.literals.specs.Lits.{noLits}
 use Rattle.rules.specs.declared.Row.{Row}
-use Rattle.rules.specs.Table.{rowWords, rowWordsOf, newRow, withWeight}
+use Rattle.rules.specs.Table.{rowWords, rowWordsOf, newRow, withWeight, hardMark, isHard, badMark}
 use Rattle.rules.specs.Desk.{headWords, rowPlace, rowOn, setRow, setWeight}
 use Rattle.rules.specs.Rewrite.{laid}
 use Rattle.rules.specs.Steps.{reweighed}
@@ -98,6 +100,11 @@ module _ (d : List ℕ) (i : ℕ) where
   unfolding setWeight
   set-weight-other w j n = set-row-other (withWeight (rowOn d i) w) j n
 
+-- of a soft row the mark alone can be bad
+pub soft-marked : (r s : Row) → s .mark ≡ r .mark → isHard r ≡ false → badMark r ≡ false → badMark s ≡ false
+unfolding badMark isHard
+soft-marked r s e soft fine = rw (e, soft, or-none (ltb hardMark (r .mark)) _ fine .0)
+
 -- ---- new weights for named rows
 
 -- no two of the first n are the same
@@ -161,22 +168,37 @@ module _ (new : ℕ → ℕ) (row : ℕ → ℕ) (d : List ℕ) where
           set-weight-same e (row n) x (rw (length-reweighed n) h)
           ∙ ap (λ (r : Row). withWeight r (new (r .weight))) (reweighed-yet n apart)
 
-  -- literals stay
-  pub reweighed-lits : (n : ℕ) → ((i : ℕ) → i < n → rowPlace (suc (row i)) ≤ length d) → (j : ℕ) → rowOn (reweighed new row d n) j .lits ≡ rowOn d j .lits
+  -- whatever is asked of a row beside its weight stays
+  pub reweighed-keeps : {A : Type 0} (f : Row → A) → ((r : Row) (x : ℕ) → f (withWeight r x) ≡ f r) → (n : ℕ)
+      → ((i : ℕ) → i < n → rowPlace (suc (row i)) ≤ length d) → (j : ℕ) → f (rowOn (reweighed new row d n) j) ≡ f (rowOn d j)
   unfolding reweighed
-  reweighed-lits zero h j = refl
-  reweighed-lits (suc n) h j =
+  reweighed-keeps f same zero h j = refl
+  reweighed-keeps f same (suc n) h j =
       ⊎-elim
-      (λ q. rw q (ap (λ (r : Row). r .lits) (set-weight-same e (row n) x (rw (length-reweighed n) (h n (le-refl (suc n)))))))
-      (λ m. ap (λ (r : Row). r .lits) (set-weight-other e (row n) x j m))
+      (λ q. rw q (ap f (set-weight-same e (row n) x (rw (length-reweighed n) (h n (le-refl (suc n))))) ∙ same (rowOn e (row n)) x))
+      (λ m. ap f (set-weight-other e (row n) x j m))
       (eq-or-ne j (row n))
-      ∙ reweighed-lits n (downwards h) j
+      ∙ reweighed-keeps f same n (downwards h) j
     where
       e : List ℕ
       e = reweighed new row d n
 
       x : ℕ
       x = new (rowOn e (row n) .weight)
+
+  -- literals stay
+  pub reweighed-lits : (n : ℕ) → ((i : ℕ) → i < n → rowPlace (suc (row i)) ≤ length d) → (j : ℕ) → rowOn (reweighed new row d n) j .lits ≡ rowOn d j .lits
+  reweighed-lits n h j = reweighed-keeps (λ r. r .lits) (λ r x. refl) n h j
+
+  -- and marks; where the named rows are soft, none becomes bad
+  pub reweighed-marked : (n : ℕ) → ((i : ℕ) → i < n → rowPlace (suc (row i)) ≤ length d) → ((i : ℕ) → i < n → isHard (rowOn d (row i)) ≡ false)
+      → (j : ℕ) → badMark (rowOn d j) ≡ false → badMark (rowOn (reweighed new row d n) j) ≡ false
+  reweighed-marked n h soft j e =
+      ⊎-elim
+      (λ (w : (i : ℕ) × (i < n) × (j ≡ row i)).
+      soft-marked (rowOn d j) (rowOn (reweighed new row d n) j) (reweighed-keeps (λ r. r .mark) (λ r x. refl) n h j) (rw (w .2) (soft (w .0) (w .1))) e)
+      (λ out. rw (reweighed-other n j out) e)
+      (named-or-not n row j)
 
 pub reweighed-ext : (new : ℕ → ℕ) (row other : ℕ → ℕ) (d : List ℕ) (n : ℕ) → ((i : ℕ) → i < n → row i ≡ other i)
     → reweighed new row d n ≡ reweighed new other d n

@@ -19,6 +19,7 @@ use Rattle.rules.specs.declared.Judged.{Judged}
 use Rattle.rules.specs.declared.Judged.the-variants.{Fine}
 use Rattle.rules.specs.Refusals.{refuse}
 use Rattle.rules.specs.Desk.{variables, inUse, capacity, standing, decided, mostSteps, wellFormed, decisions, satisfied, rowOn, spent}
+use Rattle.rules.specs.Table.{isHard}
 use Rattle.rules.specs.Decide.{badLiteral, decideWhy}
 use Rattle.rules.specs.Rewrite.{fits, given, wellFitted, rewriteWhy}
 use Rattle.rules.specs.Steps.{countFits, distinct, wellNamed, remnantOf, stored}
@@ -66,6 +67,7 @@ pub record Rewritten (d : List ℕ) (kind : ℕ) (named : List ℕ) : Type 0 whe
   pub counted : countFits kind (length named) ≡ true
   pub used : (i : ℕ) → i < length named → getD named i 0 < inUse d
   pub apart : Distinct (length named) (λ i. getD named i 0)
+  pub soft : (i : ℕ) → i < length named → isHard (rowOn d (getD named i 0)) ≡ false
   pub weighty : (i : ℕ) → i < length named → spent (rowOn d (getD named i 0)) ≡ false
   pub unsatisfied : (i : ℕ) → i < length named → satisfied (decisions d) (rowOn d (getD named i 0) .lits) ≡ false
   pub fitted : fits kind (length named) (remnantOf d named) ≡ true
@@ -75,7 +77,7 @@ pub rewrite-fine : (d : List ℕ) (kind : ℕ) (named : List ℕ) → rewriteWhy
 unfolding rewriteWhy wellNamed wellFitted
 rewrite-fine d kind named e =
     let n : ℕ = length named in
-    let good : ℕ → Bool = λ i. not (spent (rowOn d (getD named i 0)) || satisfied (decisions d) (rowOn d (getD named i 0) .lits)) in
+    let good : ℕ → Bool = λ i. let row = rowOn d (getD named i 0) in not (isHard row || (spent row || satisfied (decisions d) (row .lits))) in
     let fit : Bool = every n good && fits kind n (remnantOf d named) in
     let full : Bool = ltb (capacity d) (inUse d + length (stored (given d kind named))) in
     let used : Bool = every n (λ i. ltb (getD named i 0) (inUse d)) in
@@ -96,8 +98,9 @@ rewrite-fine d kind named e =
     let fitting = not-false fit (f .0) in
     let rows = every-at n good (and-left (every n good) (fits kind n (remnantOf d named)) fitting) in
     let row : ℕ → Row = λ i. rowOn d (getD named i 0) in
-    let each : (i : ℕ) → i < n → (spent (row i) ≡ false) × (satisfied (decisions d) (row i .lits) ≡ false) =
-    λ i l. or-none (spent (row i)) (satisfied (decisions d) (row i .lits)) (not-true (spent (row i) || satisfied (decisions d) (row i .lits)) (rows i l)) in
+    let closed : ℕ → Bool = λ i. spent (row i) || satisfied (decisions d) (row i .lits) in
+    let each : (i : ℕ) → i < n → (isHard (row i) ≡ false) × (closed i ≡ false) =
+    λ i l. or-none (isHard (row i)) (closed i) (not-true (isHard (row i) || closed i) (rows i l)) in
     record {
       desk = formed d (not-false (wellFormed d) (a .0));
       room = leb-false mostSteps (standing d) (b .0);
@@ -109,8 +112,9 @@ rewrite-fine d kind named e =
       counted = and-left (countFits kind n) (used && apart) n2;
       used = λ i l. ltb-true (getD named i 0) (inUse d) (every-at n (λ i. ltb (getD named i 0) (inUse d)) (and-left used apart n3) i l);
       apart = distinct-apart n (λ i. getD named i 0) (and-right used apart n3);
-      weighty = λ i l. each i l .0;
-      unsatisfied = λ i l. each i l .1;
+      soft = λ i l. each i l .0;
+      weighty = λ i l. or-none (spent (row i)) (satisfied (decisions d) (row i .lits)) (each i l .1) .0;
+      unsatisfied = λ i l. or-none (spent (row i)) (satisfied (decisions d) (row i .lits)) (each i l .1) .1;
       fitted = and-right (every n good) (fits kind n (remnantOf d named)) fitting;
       space = ltb-false (capacity d) (inUse d + length (stored (given d kind named))) (g .0);
     }

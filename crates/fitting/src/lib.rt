@@ -21,6 +21,7 @@ use rules::Judged;
 use rules::Part;
 use rules::Refusal;
 use rules::word;
+use values::is_hard;
 use values::satisfied;
 use words::inner::row_on;
 
@@ -64,7 +65,7 @@ fn well_named(desk: &[u64], kind: u64, named: &[u64]) -> bool
     !repeated(named)
 }
 
-// No named row spent or satisfied, and the remnants fit.
+// No named row hard, spent or satisfied, and the remnants fit.
 fn well_fitted(desk: &[u64], kind: u64, named: &[u64]) -> bool
     requires { ⌜ OnDesk (now desk) (now named) ⌝ }
     requires { ⌜ WellNamed kind (length (now named)) ⌝ }
@@ -76,7 +77,7 @@ fn well_fitted(desk: &[u64], kind: u64, named: &[u64]) -> bool
     fit(desk, kind, named)
 }
 
-// No named row is spent or satisfied.
+// No named row is hard, spent or satisfied.
 fn all_open(desk: &[u64], named: &[u64]) -> bool
     requires { ⌜ OnDesk (now desk) (now named) ⌝ }
     ensures { λ r. ⌜ r ≡ allOpen (now (desk .entry)) (now (named .entry)) ⌝ }
@@ -88,7 +89,7 @@ fn all_open(desk: &[u64], named: &[u64]) -> bool
     let mut i = 0;
     while i < named.len() {
         let row = row_on(desk, named[i] as usize);
-        if (row.weight == 0) | satisfied(p, row.lits) {
+        if is_hard(row) | ((row.weight == 0) | satisfied(p, row.lits)) {
             return false;
         }
         i += 1;

@@ -1,10 +1,10 @@
 // A desk in lent words is well formed, (a) to (e).
 ghost use mathlib.Core.Path.{_≡_};
-ghost use mathlib.Core.Bool.{not};
+ghost use mathlib.Core.Bool.{not, _||_};
 ghost use Prim.Native.Nat.{_+_, _*_, _≤_};
 ghost use lib.ListN.{length};
 ghost use Rattle.masks.specs.Sums.{every};
-ghost use Rattle.rules.specs.Table.{rowWords, badLits};
+ghost use Rattle.rules.specs.Table.{rowWords, badLits, badMark};
 ghost use Rattle.rules.specs.Desk.{headWords, rowOn, reaches, inLimits, masksNest, wellFormed};
 use literals::Literal;
 use rules::Desk;
@@ -13,6 +13,7 @@ use rules::Row;
 use rules::word;
 use tables::inner::over;
 use values::bad_lits;
+use values::bad_mark;
 use words::inner::row_on;
 
 // Whether a desk in these words is well formed.
@@ -57,14 +58,15 @@ fn in_limits(desk: &[u64]) -> bool
                 & ((h.in_use <= h.capacity) & (h.standing <= Desk::MOST_STEPS))))
 }
 
-// (c) No row in use has a variable both ways or above the count.
+// (c) No row in use has a variable both ways or above the count, or a bad mark.
 fn rows_sound(desk: &[u64], variables: u64, n: usize) -> bool
     requires { ⌜ headWords + rowWords * n ≤ length (now desk) ⌝ }
-    ensures { λ r. ⌜ r ≡ every n (λ i. not (badLits variables (rowOn (now (desk .entry)) i .lits))) ⌝ }
+    ensures { λ r. ⌜ r ≡ every n (λ i. not (badLits variables (rowOn (now (desk .entry)) i .lits) || badMark (rowOn (now (desk .entry)) i))) ⌝ }
 {
     let mut i = 0;
     while i < n {
-        if bad_lits(variables, row_on(desk, i).lits) {
+        let row = row_on(desk, i);
+        if bad_lits(variables, row.lits) | bad_mark(row) {
             return false;
         }
         i += 1;

@@ -13,16 +13,15 @@ use Rattle.literals.specs.Lits.{isEmpty}
 use Rattle.rules.specs.declared.Part.{Part}
 use Rattle.rules.specs.declared.Row.{Row}
 use Rattle.rules.specs.Table.{mostWeight}
-use Rattle.rules.specs.Desk.{variables, inUse, conceded, rowOn, wellFormed, weightOn, satisfied, remnant}
+use Rattle.rules.specs.Desk.{variables, inUse, conceded, rowOn, weightOn, satisfied, remnant}
 use Rattle.rules.specs.Bound.{weightWhere, lostBeyond, lost}
 use Rattle.rules.specs.Groups.{Weights, hunts, workingWeight, huntsOn, groupsCost, groupsBound}
-use Rattle.desk_laws.proofs.Formed.{formed}
 use Rattle.group_laws.proofs.Costs.{taken-le, taken-in, sum-drop, groupAt, after, tallied-by, costed}
 use Rattle.desk_laws.specs.Readable.{Readable}
 use Rattle.working_weights.specs.Works.{Works}
 use Rattle.looking.specs.Looks.{litsOn}
 use Rattle.hunts.specs.Hunts.{Lying}
-use Rattle.groups.specs.Foresees.{workWords, Begun}
+use Rattle.groups.specs.Foresees.{Begun}
 
 module _ (lits : ℕ → Lits) (rows names : ℕ) (p : Part) where
   hunts-fit : (W : Weights) (k : ℕ) → hunts lits rows names p W k .costs + sum rows (hunts lits rows names p W k .weights) ≤ sum rows W
@@ -74,7 +73,3 @@ pub certain-first : (d : List ℕ) (p : Part) (best conceding losing r : ℕ) �
     → min best r ≡ min best (conceding + losing + groupsCost d p) → min best r ≡ min best (groupsBound d p)
 unfolding groupsBound lost
 certain-first d p best conceding losing r a b e = e ∙ rw (a, b)
-
--- the work words suffice for any desk that is well formed
-pub work-enough : (d : List ℕ) → wellFormed d ≡ true → inUse d ≤ workWords
-work-enough d h = let f = formed d h in omega (arith, f .fitting, f .roomy)

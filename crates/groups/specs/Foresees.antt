@@ -5,16 +5,12 @@ use mathlib.Core.Path.{_≡_}
 use mathlib.Core.Bool.{false}
 use lib.ListN.{length, getD}
 use Rattle.rules.specs.declared.Part.{Part}
-use Rattle.rules.specs.Desk.{mostCapacity, variables, inUse}
+use Rattle.rules.specs.Desk.{variables, inUse}
 use Rattle.rules.specs.Groups.{Hunt, Tally, hunted, tallied, workingWeight, groupsCost}
 use Rattle.group_laws.specs.Trails.{weightsIn}
 use Rattle.looking.specs.Looks.{litsOn, Lent}
 use Rattle.hunts.specs.Hunts.{Lying}
 use Rattle.gathering.specs.Gathered.{groupWords}
-
--- a word for each row in use, whatever desk it is
-abbrev pub workWords : ℕ
-workWords = mostCapacity
 
 -- room for a hunt: working weights, a trail, a group
 pub record Room (d words ms rs group : List ℕ) : Type 0 where

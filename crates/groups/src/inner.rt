@@ -4,7 +4,9 @@ ghost use mathlib.Core.Path.{_≡_};
 ghost use Prim.Native.Nat.{_+_, _≤_, min};
 ghost use lib.ListN.{length};
 ghost use Rattle.rules.specs.Desk.{inUse};
-ghost use Rattle.rules.specs.Groups.{groupsCost, groupsBound, lossesByGroups};
+ghost use Rattle.rules.specs.declared.Choice.{Choice};
+ghost use Rattle.rules.specs.Groups.{groupsCost, lossesByGroups};
+ghost use Rattle.rules.specs.Walk.{priceOf};
 ghost use Rattle.desk_laws.specs.Readable.{Readable};
 ghost use Rattle.hunts.specs.Hunts.{Lying};
 ghost use Rattle.groups.specs.Foresees.{Room, Hunted, Begun};
@@ -21,6 +23,9 @@ use working_weights::inner::weigh;
 
 // The words that are lent for the working weights: enough for any desk.
 pub const WORDS: usize = Desk::MOST_CAPACITY as usize;
+
+// The price of a dead node: more than any best.
+pub const DEAD: u64 = Row::MOST_WEIGHT + 1;
 
 // Entries that a trail can have.
 const ENTRIES: usize = Literal::MOST as usize;
@@ -105,15 +110,15 @@ fn foreseen_up_to(desk: &[u64], p: Part, start: u64, best: u64, weights: &mut [u
     )
 }
 
-// Conceded, lost beyond that, foreseen by groups.
+// Conceded, lost beyond that, foreseen by groups. Nothing is charged for a hard row.
 pub fn losses_at(desk: &[u64], p: Part, work: &mut [u64]) -> Losses
     requires { ⌜ Readable (now desk) ⌝ }
     requires { ⌜ inUse (now desk) ≤ length (now work) ⌝ }
     ensures { λ r. ⌜ r ≡ lossesByGroups (now (desk .entry)) p ⌝ }
 {
     let conceded = rules::word(desk, Desk::CONCEDED);
-    let lost = weigh(desk, p, work);
-    let foreseen = foreseen_up_to(desk, p, 0, Row::MOST_WEIGHT + 1, work);
+    let lost = weigh(desk, p, 0, work);
+    let foreseen = foreseen_up_to(desk, p, 0, DEAD, work);
     Losses {
         conceded,
         lost,
@@ -121,14 +126,18 @@ pub fn losses_at(desk: &[u64], p: Part, work: &mut [u64]) -> Losses
     }
 }
 
-// Their total, or no less than `best` where that is as much: no hunt is made once `best` is reached.
-pub fn bound_up_to(desk: &[u64], p: Part, best: u64, work: &mut [u64]) -> u64
+// The price of a node: their total, or no less than `best` where that is as much. No hunt is made once `best` is reached, and none where a hard row is
+// lost.
+pub fn price_up_to(desk: &[u64], p: Part, best: u64, work: &mut [u64]) -> u64
     requires { ⌜ Readable (now desk) ⌝ }
     requires { ⌜ inUse (now desk) ≤ length (now work) ⌝ }
-    ensures { λ r. ⌜ min best r ≡ min best (groupsBound (now (desk .entry)) p) ⌝ }
+    ensures { λ r. ⌜ min best r ≡ min best (priceOf Choice.Groups (now (desk .entry)) p) ⌝ }
 {
+    let lost = weigh(desk, p, DEAD, work);
+    if lost >= DEAD {
+        return DEAD;
+    }
     let conceded = rules::word(desk, Desk::CONCEDED);
-    let lost = weigh(desk, p, work);
     let certain = conceded + lost;
     foreseen_up_to(desk, p, certain, best, work)
 }

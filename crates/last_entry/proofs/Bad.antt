@@ -10,13 +10,21 @@ use borrow.Author.Tests.{eqb-true, ltb-true, ltb-false, not-false}
 use Rattle.masks.specs.Sums.{every}
 use Rattle.masks.proofs.Sums.{every-at}
 use Rattle.masks.proofs.Choice.{and-left, and-right, or-cases, or-none}
-use Rattle.rules.specs.Desk.{inUse, conceded, loaded, weightFits}
+use Rattle.rules.specs.Table.{isHard}
+use Rattle.rules.specs.Desk.{inUse, conceded, loaded, rowOn, weightFits}
 use Rattle.rules.specs.Steps.{fewest, most, mostNamed, fewerAdded, countFits, distinct}
 use Rattle.rules.specs.TakeBack.{lastKind, lastCount, lastNamed, lastFirst, lastConceded, mergedEmpty, undoRewriting, badRewriting}
 use Rattle.desk_laws.proofs.Stores.{Distinct}
 use Rattle.desk_laws.proofs.Verdicts.{distinct-apart}
 use Rattle.step_laws.proofs.ByKind.{by-kind, counted}
-use Rattle.last_entry.specs.Last.{namedWell, addedWell}
+use Rattle.last_entry.specs.Last.{namedWell, addedWell, softNamed}
+
+-- rows that are named well lie below the first new row
+pub below-first : (d : List ℕ) (n first : ℕ) → namedWell d n first ≡ true → (i : ℕ) → i < n → lastNamed d i < first
+unfolding namedWell
+below-first d n first b i l =
+    ltb-true (lastNamed d i) first
+    (every-at n (λ k. ltb (lastNamed d k) first) (and-right (distinct n (lastNamed d)) (every n (λ k. ltb (lastNamed d k) first)) b) i l)
 
 module _ (d : List ℕ) where
   abbrev kind : ℕ
@@ -49,19 +57,20 @@ module _ (d : List ℕ) where
     unfolding badRewriting namedWell addedWell mergedEmpty
     bad-conceded h = rw (a, b, e, g, h)
 
-    pub bad-weight : ltb (conceded d) (lastConceded d) ≡ false → badRewriting d ≡ not (weightFits (undoRewriting d))
-    unfolding badRewriting namedWell addedWell mergedEmpty
-    bad-weight h = rw (a, b, e, g, h)
+    pub bad-hard : ltb (conceded d) (lastConceded d) ≡ false → softNamed d n ≡ false → badRewriting d ≡ true
+    unfolding badRewriting namedWell addedWell mergedEmpty softNamed
+    bad-hard h k = rw (a, b, e, g, h, k)
+
+    pub bad-weight : ltb (conceded d) (lastConceded d) ≡ false → softNamed d n ≡ true → badRewriting d ≡ not (weightFits (undoRewriting d))
+    unfolding badRewriting namedWell addedWell mergedEmpty softNamed
+    bad-weight h k = rw (a, b, e, g, h, k)
 
   pub named-apart : namedWell d n first ≡ true → Distinct n (lastNamed d)
   unfolding namedWell
   named-apart b = distinct-apart n (lastNamed d) (and-left (distinct n (lastNamed d)) (every n (λ i. ltb (lastNamed d i) first)) b)
 
   pub named-below : namedWell d n first ≡ true → (i : ℕ) → i < n → lastNamed d i < first
-  unfolding namedWell
-  named-below b i l =
-      ltb-true (lastNamed d i) first
-      (every-at n (λ k. ltb (lastNamed d k) first) (and-right (distinct n (lastNamed d)) (every n (λ k. ltb (lastNamed d k) first)) b) i l)
+  named-below = below-first d n first
 
   module _ (low : 1 ≤ kind) (high : kind ≤ 4) (a : countFits kind n ≡ true) where
     pub few : n ≤ mostNamed
@@ -100,15 +109,18 @@ good d e =
     let t4 = eqb (inUse d + fewerAdded (lastKind d)) (lastFirst d + lastCount d) || (eqb (lastKind d) 1 && eqb (inUse d) (lastFirst d)) in
     let t5 = ltb (conceded d) (lastConceded d) in
     let t6 = weightFits (undoRewriting d) in
-    let a = or-none (not t1) (not t2 || (t3 || (not t4 || (t5 || not t6)))) e in
-    let b = or-none (not t2) (t3 || (not t4 || (t5 || not t6))) (a .1) in
-    let c = or-none t3 (not t4 || (t5 || not t6)) (b .1) in
-    let f = or-none (not t4) (t5 || not t6) (c .1) in
-    let g = or-none t5 (not t6) (f .1) in
+    let softs = every (lastCount d) (λ i. not (isHard (rowOn d (lastNamed d i)))) in
+    let last = not softs || not t6 in
+    let a = or-none (not t1) (not t2 || (t3 || (not t4 || (t5 || last)))) e in
+    let b = or-none (not t2) (t3 || (not t4 || (t5 || last))) (a .1) in
+    let c = or-none t3 (not t4 || (t5 || last)) (b .1) in
+    let f = or-none (not t4) (t5 || last) (c .1) in
+    let g = or-none t5 last (f .1) in
+    let h = or-none (not softs) (not t6) (g .1) in
     record {
       count = not-false t1 (a .0);
       named = not-false t2 (b .0);
       added = not-false t4 (f .0);
       less = ltb-false (conceded d) (lastConceded d) (g .0);
-      light = not-false t6 (g .1);
+      light = not-false t6 (h .1);
     }

@@ -2,10 +2,10 @@
 use Prim.Native.Nat.{ℕ, _+_, _*_, _≤_, _<_}
 use mathlib.Core.Path.{_≡_}
 use mathlib.Core.List.{List}
-use mathlib.Core.Bool.{Bool, true, _&&_, _||_}
+use mathlib.Core.Bool.{Bool, true, not, _&&_, _||_}
 use lib.Dec.{eqb, ltb}
 use Rattle.masks.specs.Sums.{sum, every}
-use Rattle.rules.specs.Table.{mostWeight}
+use Rattle.rules.specs.Table.{mostWeight, isHard}
 use Rattle.rules.specs.Desk.{inUse, standing, rowOn, wellFormed}
 use Rattle.rules.specs.Steps.{distinct, fewerAdded, mostNamed}
 use Rattle.rules.specs.TakeBack.{lastWeight, lastNamed}
@@ -22,6 +22,10 @@ namedWell d n first = distinct n (lastNamed d) && every n (λ i. ltb (lastNamed 
 -- the rows in use above the first new row are what the kind adds
 unfoldable pub addedWell : List ℕ → ℕ → ℕ → ℕ → Bool
 addedWell d kind n first = eqb (inUse d + fewerAdded kind) (first + n) || (eqb kind 1 && eqb (inUse d) first)
+
+-- none of n named rows is hard
+unfoldable pub softNamed : List ℕ → ℕ → Bool
+softNamed d n = every n (λ i. not (isHard (rowOn d (lastNamed d i))))
 
 -- the weights afterwards come to more than the limit
 unfoldable pub overAfter : List ℕ → ℕ → ℕ → ℕ → Bool

@@ -1,9 +1,11 @@
 // A last entry judged, on a well-formed desk on which a step stands, and what that step added to conceded.
 ghost use mathlib.Core.Path.{_≡_};
+ghost use mathlib.Core.Bool.{true};
 ghost use Prim.Native.Nat.{_≤_};
+ghost use Rattle.rules.specs.Desk.{inUse};
 ghost use Rattle.rules.specs.Steps.{mostNamed};
 ghost use Rattle.rules.specs.TakeBack.{badDecision, badRewriting, badLast, lastKind, lastConceded};
-ghost use Rattle.last_entry.specs.Last.{Stands, Counts, namedWell, addedWell, overAfter};
+ghost use Rattle.last_entry.specs.Last.{Stands, Counts, namedWell, addedWell, softNamed, overAfter};
 use kinds::concedes;
 use kinds::count_fits;
 use kinds::fewer_added;
@@ -14,8 +16,10 @@ use rules::Entry;
 use rules::Row;
 use rules::word;
 use tables::inner::over;
+use values::is_hard;
 use words::inner::last_rows;
 use words::inner::last_word;
+use words::inner::row_on;
 
 // The last entry is bad.
 pub fn bad_last(desk: &[u64]) -> bool
@@ -86,6 +90,9 @@ fn bad_rewriting(desk: &[u64]) -> bool
     if word(desk, Desk::CONCEDED) < back {
         return true;
     }
+    if !none_hard(desk, n as usize, first) {
+        return true;
+    }
     too_heavy(desk, n, first, word(desk, Desk::CONCEDED) - back)
 }
 
@@ -113,6 +120,25 @@ fn rows_added(desk: &[u64], kind: u64, n: u64, first: u64) -> bool
         }
     }
     (kind == 1) & (in_use == first)
+}
+
+// None of its rows is hard.
+fn none_hard(desk: &[u64], n: usize, first: u64) -> bool
+    requires { ⌜ Stands (now desk) ⌝ }
+    requires { ⌜ n ≤ mostNamed ⌝ }
+    requires { ⌜ first ≤ inUse (now desk) ⌝ }
+    requires { ⌜ namedWell (now desk) n first ≡ true ⌝ }
+    ensures { λ r. ⌜ r ≡ softNamed (now (desk .entry)) n ⌝ }
+{
+    let rows = last_rows(desk);
+    let mut i = 0;
+    while i < n {
+        if is_hard(row_on(desk, rows[i] as usize)) {
+            return false;
+        }
+        i += 1;
+    }
+    true
 }
 
 // Conceded and the weights, with w back on each named row, come to more than the limit.

@@ -31,7 +31,9 @@ module _ {M : Type 1} (𝓤 : URA M) (H : Heap 𝓤) (A : Atoms 𝓤) (memory : 
       record {
         load = tied 𝓤 H A load-met (λ κs a. (tt, refl)) refl (λ κs a g x ws. two-facts 𝓤 _ _ _ (λ p q. (p, ap (λ (l : List ℕ). (tt, (tt, (tt, (l, tt))))) q)));
         wellFormed = tied 𝓤 H A well-formed-met (λ κs a. (tt, refl)) refl (λ κs a g x ws. one-fact 𝓤 _ _ (λ p. (p, refl)));
-        weight = tied 𝓤 H A weight-met (λ κs a. (tt, refl)) refl (λ κs a g x ws. two-facts 𝓤 _ _ _ (λ p q. (p, ap (λ (l : ℕ). (tt, (tt, (tt, (l, tt))))) q)));
+        weight =
+            tied 𝓤 H A weight-met (λ κs a. (tt, refl)) refl
+            (λ κs a g x ws. two-facts 𝓤 _ _ _ (λ p q. (p, ap (λ (l : List ℕ). (tt, (tt, (tt, (l, tt))))) q)));
         decide = tied 𝓤 H A decide-met (λ κs a. (tt, refl)) refl (λ κs a g x ws. two-facts 𝓤 _ _ _ (λ p q. (p, ap (λ (l : List ℕ). (l, (tt, tt))) q)));
         rewrite = tied 𝓤 H A rewrite-met (λ κs a. (tt, refl)) refl (λ κs a g x ws. two-facts 𝓤 _ _ _ (λ p q. (p, ap (λ (l : List ℕ). (l, (tt, (tt, tt)))) q)));
         takeBack = tied 𝓤 H A take-back-met (λ κs a. (tt, refl)) refl (λ κs a g x ws. two-facts 𝓤 _ _ _ (λ p q. (p, ap (λ (l : List ℕ). (l, tt)) q)));

@@ -6,7 +6,7 @@ ghost use lib.ListN.{length};
 ghost use lib.Seq.{sets};
 ghost use Rattle.rules.specs.Table.{rowWords, mostRows};
 ghost use Rattle.rules.specs.Reader.{firstRowLine};
-ghost use Rattle.rules.specs.Reader.{litsLine, rowAt, rowsAt, restWhy, wordsOf};
+ghost use Rattle.rules.specs.Reader.{litsLine, markLine, rowAt, rowsAt, restWhy, wordsOf};
 ghost use Rattle.text_laws.specs.Ends.{unbroken};
 ghost use Rattle.reader.specs.Ends.{endOf};
 use crate::RowsEnd;
@@ -21,7 +21,7 @@ use rules::RowRead;
 // The line on which the rows begin, and the lines of a row.
 const FIRST_LINE: u64 = 4;
 
-const LINES: u64 = 2;
+const LINES: u64 = 3;
 
 // A line of literals.
 fn lits_line(s: &[u8], at: usize) -> Listed
@@ -36,7 +36,20 @@ fn lits_line(s: &[u8], at: usize) -> Listed
     }
 }
 
-// A row's two lines, of which the first has this number.
+// A line of a mark, 0 or 1.
+fn mark_line(s: &[u8], at: usize) -> Parsed
+    ensures { λ r. ⌜ r ≡ markLine (now (s .entry)) at ⌝ }
+{
+    let Parsed::Number { value: mark, next } = inner::number_line(s, at, b"hard=") else {
+        return Parsed::Broken;
+    };
+    if mark > Row::HARD {
+        return Parsed::Broken;
+    }
+    Parsed::Number { value: mark, next }
+}
+
+// A row's three lines, of which the first has this number.
 fn row_at(s: &[u8], at: usize, line: u64) -> RowRead
     requires { ⌜ line < 2 ^ 32 ⌝ }
     ensures { λ r. ⌜ r ≡ rowAt (now (s .entry)) at line ⌝ }
@@ -48,11 +61,15 @@ fn row_at(s: &[u8], at: usize, line: u64) -> RowRead
     else {
         return RowRead::Broken(line);
     };
-    let Listed::Literals { lits, next } = lits_line(s, next) else {
+    let Parsed::Number { value: mark, next } = mark_line(s, next) else {
         let second = line + 1;
         return RowRead::Broken(second);
     };
-    let row = Row::new(lits, weight);
+    let Listed::Literals { lits, next } = lits_line(s, next) else {
+        let third = line + 2;
+        return RowRead::Broken(third);
+    };
+    let row = Row::marked(lits, weight, mark);
     RowRead::Lines { row, next }
 }
 

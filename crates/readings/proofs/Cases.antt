@@ -1,11 +1,16 @@
 -- The line of a reading as the bytes that are stored for it, by case, and how long it can be.
 use Prim.Native.Nat.{ℕ, _≤_}
-use mathlib.Core.Path.{_≡_}
+use mathlib.Core.Path.{_≡_, refl}
+use mathlib.Core.Bool.{Bool, true, false}
 use native.Mathlib.Omega.{arith}
 use lib.ListN.{length}
 use Rattle.literals.specs.declared.Lits.{Lits}
 use Rattle.literals.specs.Literal.{mostVariables}
+use Rattle.masks.proofs.Choice.{impossible}
+use Rattle.rules.specs.declared.Status.{Status}
 use Rattle.rules.specs.declared.Best.{Best}
+use Rattle.rules.specs.declared.Walked.{Walked}
+use Rattle.rules.specs.Walk.{statusOf, bestOf, foundBy}
 use Rattle.rules.specs.Text.{bytes, line}
 use Rattle.rules.specs.Program.{literalsOf, readingText}
 use Rattle.text_laws.specs.Pieces.{listLine}
@@ -26,3 +31,12 @@ unfolding line bytes
 reading-length n Best.Nothing h = omega arith
 reading-length n (Best.Reading w r) h =
     omega (arith, list-length readingKey n (literalsOf n r))
+
+-- what a walk found says so: impossible is said where none was kept
+pub found-none : (s : Walked) → foundBy s .status ≡ Status.Impossible → foundBy s .best ≡ Best.Nothing
+found-none s e = go (s .stopped) (s .kept) e
+  where
+    go : (stopped kept : Bool) → statusOf stopped kept ≡ Status.Impossible → bestOf kept (s .best) (s .reading) ≡ Best.Nothing
+    go true kept q = impossible (cc)
+    go false true q = impossible (cc)
+    go false false q = refl

@@ -6,7 +6,7 @@ use Rattle.masks.specs.Sums.{sum, every, smallest}
 use Rattle.masks.specs.Words.{zeroed}
 use Rattle.literals.specs.Literal.{size, isPositive, isLiteral, opposite, bitOf, litsOf, offered}
 use Rattle.literals.specs.Lits.{noLits, negatedLits, together, less, variablesOf, isEmpty, sameLits, isOne}
-use Rattle.rules.specs.Bound.{weightWhere, lostBeyond, lost, unitWeight, foreseenAt, foreseen, bound, lossesAt, deskWhy}
+use Rattle.rules.specs.Bound.{weightWhere, lostBeyond, lost, unitWeight, foreseenAt, foreseen, bound, lossesAt, lostHard, dead, deskWhy}
 use Rattle.rules.specs.Choice.{bounded}
 use Rattle.rules.specs.Calls.{afterCall, afterCalls}
 use Rattle.rules.specs.Decide.{entered, badLiteral, decideWhy, decisionEntry, decideStep, decideDesk}
@@ -15,10 +15,10 @@ use Rattle.rules.specs.TakeBack.{takeBackDesk}
 use Rattle.rules.specs.Desk.{rowPlace, entryPlace, deskWords, rowOn, setRow, setWeight, weightOn, reaches, inLimits, rowsSound, weightFits}
 use Rattle.rules.specs.Desk.{masksNest, wellFormed, loadWhy, loadStep, loadDesk, decisions, satisfied, remnant, spent, deskWeighs, keeps}
 use Rattle.rules.specs.Program.{refusalText, lossesText, foundText, programDesk, outcomeOf, answer}
-use Rattle.rules.specs.Reader.{stands, isDigit, digitRun, valueOf, numberAt, numberLine, literalAt, withLiteral, litsFrom, litsLine, rowAt}
+use Rattle.rules.specs.Reader.{stands, isDigit, digitRun, valueOf, numberAt, numberLine, literalAt, withLiteral, litsFrom, litsLine, markLine, rowAt}
 use Rattle.rules.specs.Reader.{rowsAt, headAt, readWhy, readWords, readStep, textRead}
 use Rattle.rules.specs.Table.{rowWordsOf, rowIn, rowOf, rowCount, holds, givenUp, weighs, badTable, badLits, badWeight, rowWhy, rowsWhy}
-use Rattle.rules.specs.Table.{sumTooLarge, tableWhy, weighWhy, weighed}
+use Rattle.rules.specs.Table.{isHard, breaks, hardHold, badMark, sumTooLarge, tableWhy, weighWhy, weighed}
 use Rattle.rules.specs.Rewrite.{shows, lit, links, compensating}
 use Rattle.rules.specs.Steps.{fewest, most, fewerAdded, concedes, countFits, distinct, wellNamed, remnantOf}
 use Rattle.rules.specs.Rewrite.{clash, apartFrom, forked, merges, shifts, chains, forks, fits, gives, given, wellFitted}
@@ -42,7 +42,8 @@ unfolding bit has count without none below single sum every smallest zeroed size
     outcomeOf answer stands isDigit digitRun valueOf numberAt numberLine literalAt withLiteral litsFrom litsLine rowAt rowWordsOf rowsAt headAt readWhy
     readWords readStep textRead fewest most fewerAdded concedes countFits distinct wellNamed remnantOf shows lit links compensating clash apartFrom
     forked merges shifts chains forks fits gives stored empties given wellFitted rewriteWhy lightest reweighed laid rewritingEntry rewriteStep rowIn
-    rowOf rowCount holds givenUp weighs badTable badLits badWeight rowWhy rowsWhy sumTooLarge tableWhy weighWhy weighed lastPlace lastKind
+    rowOf rowCount holds givenUp weighs breaks hardHold isHard badMark lostHard dead markLine badTable badLits badWeight rowWhy rowsWhy sumTooLarge
+    tableWhy weighWhy weighed lastPlace lastKind
     lastVariable lastWeight lastCount lastNamed lastFirst mergedEmpty lastConceded withdrawn undoDecision undoRewriting takeBackStep badDecision
     badRewriting badLast takeBackWhy bytes digits numberText line behind litsText rowText rowsText tableText textWhy textWritten textOut fixed visited
     keptAt halted walk undecided atStart walkOf searched figures

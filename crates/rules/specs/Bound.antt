@@ -3,7 +3,7 @@ use Prim.Native.Nat.{ℕ, _+_, min}
 use mathlib.Core.List.{List, [], _∷_}
 use mathlib.Core.Bool.{Bool, cond, not, _&&_}
 use Rattle.masks.specs.Masks.{has, single}
-use Rattle.masks.specs.Sums.{sum}
+use Rattle.masks.specs.Sums.{sum, every}
 use Rattle.literals.specs.declared.Lits.{Lits}
 use Rattle.literals.specs.Lits.{isEmpty, sameLits}
 use Rattle.rules.specs.declared.Row.{Row}
@@ -12,6 +12,7 @@ use Rattle.rules.specs.declared.Losses.{Losses}
 use Rattle.rules.specs.declared.Refusal.the-variants.{BadDesk}
 use Rattle.rules.specs.declared.Judged.{Judged}
 use Rattle.rules.specs.Refusals.{_when_, firstDue}
+use Rattle.rules.specs.Table.{isHard}
 use Rattle.rules.specs.Desk.{variables, inUse, conceded, rowOn, wellFormed, satisfied, remnant}
 
 -- a row's weight where the row is unsatisfied and its remnant passes a test
@@ -54,6 +55,13 @@ certain l = l .conceded + l .lost
 -- "Their sum is the bound of document 01."
 abbrev pub total : Losses → ℕ
 total l = certain l + l .foreseen
+
+-- Document 02, C-16: "an unsatisfied hard row has an empty remnant", and the walk cuts the node
+unfoldable pub lostHard : Part → Row → Bool
+lostHard p row = isHard row && (not (satisfied p (row .lits)) && isEmpty (remnant p (row .lits)))
+
+unfoldable pub dead : List ℕ → Part → Bool
+dead d p = not (every (inUse d) (λ i. not (lostHard p (rowOn d i))))
 
 -- Bound and search: 10.
 unfoldable pub deskWhy : List ℕ → Judged

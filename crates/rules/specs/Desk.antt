@@ -15,7 +15,8 @@ use Rattle.rules.specs.declared.Part.{Part}
 use Rattle.rules.specs.declared.Refusal.the-variants.{TooManyVariables, BadTable, BadCapacity, NoRoom, SumTooLarge}
 use Rattle.rules.specs.declared.Judged.{Judged}
 use Rattle.rules.specs.Refusals.{_when_, asIn, firstDue, unlessRefused}
-use Rattle.rules.specs.Table.{rowWords, mostRows, mostWeight, rowIn, rowWordsOf, withWeight, rowCount, givenUp, badTable, badLits, rowsWhy, sumTooLarge}
+use Rattle.rules.specs.Table.{rowWords, mostRows, mostWeight, rowIn, rowWordsOf, withWeight, rowCount, givenUp, isHard, breaks}
+use Rattle.rules.specs.Table.{badTable, badLits, badMark, rowsWhy, sumTooLarge}
 
 abbrev pub headWords : ℕ
 headWords = 8
@@ -54,14 +55,14 @@ truths d = getD d 6 0
 abbrev pub loaded : List ℕ → ℕ
 loaded d = getD d 7 0
 
--- "next 3C: rows, as in the table"; "last 4,096: 256 step entries of 16 words"
+-- "next [4C]: rows, as in the table"; "last 4,096: 256 step entries of 16 words"
 unfoldable pub rowPlace : ℕ → ℕ
 rowPlace i = headWords + rowWords * i
 
 unfoldable pub entryPlace : List ℕ → ℕ → ℕ
 entryPlace d j = rowPlace (capacity d) + entryWords * j
 
--- "The desk is the first 8 + 3C + 4,096 words"
+-- "The desk becomes 8 + 4C + 4,096 words."
 unfoldable pub deskWords : ℕ → ℕ
 deskWords c = rowPlace c + mostSteps * entryWords
 
@@ -89,9 +90,9 @@ inLimits d =
     leb (variables d) mostVariables
     && (leb (loaded d) mostRows && (leb (loaded d) (inUse d) && (leb (inUse d) (capacity d) && leb (standing d) mostSteps)))
 
--- (c) no row in use has a variable both ways or above the count
+-- (c) no row in use has a variable both ways or above the count; "and 10 takes both": another fourth word, and a hard row with a weight
 unfoldable pub rowsSound : List ℕ → Bool
-rowsSound d = every (inUse d) (λ i. not (badLits (variables d) (rowOn d i .lits)))
+rowsSound d = every (inUse d) (λ i. not (badLits (variables d) (rowOn d i .lits) || badMark (rowOn d i)))
 
 -- (d) conceded plus all weights in use is at most 1,000,000,000
 unfoldable pub weightFits : List ℕ → Bool
@@ -134,13 +135,17 @@ satisfied p l =
 unfoldable pub remnant : Part → Lits → Lits
 remnant p l = record { positive = without (l .positive) (p .decided); negative = without (l .negative) (p .decided) }
 
--- "and spent at weight 0"
+-- "and spent at weight 0"; a hard row "is never spent"
 unfoldable pub spent : Row → Bool
-spent row = eqb (row .weight) 0
+spent row = eqb (row .weight) 0 && not (isHard row)
 
 -- A full reading weighs "on a desk, conceded plus that sum over the rows in use".
 unfoldable pub deskWeighs : List ℕ → ℕ → ℕ
 deskWeighs d reading = conceded d + sum (inUse d) (λ i. givenUp (rowOn d i) reading)
+
+-- every hard row in use holds
+unfoldable pub hardHoldOn : List ℕ → ℕ → Bool
+hardHoldOn d reading = every (inUse d) (λ i. not (breaks (rowOn d i) reading))
 
 -- a full reading that keeps the decisions: within the variables, and true just where they say so
 unfoldable pub keeps : List ℕ → ℕ → Bool

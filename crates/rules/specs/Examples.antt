@@ -15,7 +15,7 @@ use Rattle.rules.specs.declared.Choice.{Choice}
 use Rattle.rules.specs.declared.Judged.{Judged}
 use Rattle.rules.specs.declared.Judged.the-variants.{Fine, Refused}
 use Rattle.rules.specs.Refusals.{numberOf, placeOf}
-use Rattle.rules.specs.Table.{weighs, rowWordsOf}
+use Rattle.rules.specs.Table.{newRow, weighs, rowWordsOf}
 use Rattle.rules.specs.Desk.{inUse, conceded, rowOn, deskWords, loadWhy, loadStep, deskWeighs}
 use Rattle.rules.specs.Choice.{bounded}
 use Rattle.rules.specs.Text.{bytes}
@@ -50,7 +50,7 @@ all [] = noLits
 all (l ∷ ls) = together l (all ls)
 
 abbrev pub row : List Lits → ℕ → List ℕ
-row ls w = rowWordsOf (record { lits = all ls; weight = w })
+row ls w = rowWordsOf (newRow (all ls) w)
 
 -- a desk of words that hold 9, so that what load leaves or zeroes is seen
 abbrev pub lent : ℕ → List ℕ
@@ -77,7 +77,7 @@ abbrev pub account : List ℕ → List ℕ
 account d = conceded d ∷ rowsOn d (inUse d)
 
 abbrev p4 : String
-p4 = "rows=5\nweight=1\nlits=1\nweight=1\nlits=-1 2\nweight=1\nlits=-1 -2\nweight=1\nlits=-1 3\nweight=1\nlits=-1 -3\n"
+p4 = "rows=5\nweight=1\nhard=0\nlits=1\nweight=1\nhard=0\nlits=-1 2\nweight=1\nhard=0\nlits=-1 -2\nweight=1\nhard=0\nlits=-1 3\nweight=1\nhard=0\nlits=-1 -3\n"
 
 abbrev pub p5 : List ℕ
 p5 = row (x 1 ∷ []) 3 ++ (row (x 2 ∷ []) 5 ++ row (not-x 1 ∷ not-x 2 ∷ []) 2)
@@ -113,13 +113,13 @@ examples =
     (answer (bytes "vars=0\nbudget=0\nrows=0\n"))
     (bytes "status=stopped\nweight=none\nnodes=0\nreading=none\nconceded=0\nlost=0\nforeseen=0\n")
     ∷ example "P2: the whole example"
-    (answer (bytes "vars=1\nbudget=100\nrows=2\nweight=3\nlits=1\nweight=2\nlits=-1\n"))
+    (answer (bytes "vars=1\nbudget=100\nrows=2\nweight=3\nhard=0\nlits=1\nweight=2\nhard=0\nlits=-1\n"))
     (bytes "status=done\nweight=2\nnodes=3\nreading=1\nconceded=0\nlost=0\nforeseen=2\n")
     ∷ example "P2: bound"
     (boundNumbers (bounded (desk 1 (row (x 1 ∷ []) 3 ++ row (not-x 1 ∷ []) 2) 2) Choice.Units))
     (0 ∷ 0 ∷ 2 ∷ [])
     ∷ example "P3"
-    (answer (bytes "vars=1\nbudget=100\nrows=2\nweight=4\nlits=1\nweight=4\nlits=-1\n"))
+    (answer (bytes "vars=1\nbudget=100\nrows=2\nweight=4\nhard=0\nlits=1\nweight=4\nhard=0\nlits=-1\n"))
     (bytes "status=done\nweight=4\nnodes=3\nreading=1\nconceded=0\nlost=0\nforeseen=4\n")
     ∷ example "P4"
     (answer (bytes "vars=3\nbudget=100\n" ++ bytes p4))
@@ -166,7 +166,7 @@ examples =
     (refusal (callWhy (afterCalls p8-merged (takeBack ∷ takeBack ∷ [])) takeBack))
     (16 ∷ 0 ∷ [])
     ∷ example "P9"
-    (answer (bytes "vars=1\nbudget=100\nrows=1\nweight=7\nlits=\n"))
+    (answer (bytes "vars=1\nbudget=100\nrows=1\nweight=7\nhard=0\nlits=\n"))
     (bytes "status=done\nweight=7\nnodes=3\nreading=1\nconceded=0\nlost=7\nforeseen=0\n")
     ∷ example "P10: 999,999,999 and 1 load"
     (refusal (p10 999_999_999 1))

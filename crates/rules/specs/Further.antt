@@ -8,7 +8,7 @@ use lib.ListN.{set, take, drop, replicate}
 use lib.IntN.{pos, negsuc}
 use Rattle.rules.specs.declared.Weighed.{Weighed}
 use Rattle.rules.specs.Refusals.{numberOf, placeOf}
-use Rattle.rules.specs.Table.{mostRows, weighed}
+use Rattle.rules.specs.Table.{mostRows, markedRow, hardRow, rowWordsOf, weighed}
 use Rattle.rules.specs.Desk.{mostCapacity, deskWords, inLimits, loadWhy, loadDesk}
 use Rattle.rules.specs.Text.{bytes}
 use Rattle.rules.specs.Program.{answer}
@@ -50,7 +50,7 @@ answerOf true = 1 ∷ []
 answerOf false = 0 ∷ []
 
 abbrev weightNumber : Weighed → List ℕ
-weightNumber (Weighed.Weight w) = w ∷ []
+weightNumber (Weighed.Weight w hold) = w ∷ answerOf hold
 weightNumber (Weighed.Refused r) = numberOf r ∷ placeOf r ∷ []
 
 -- n words from a place on
@@ -87,17 +87,17 @@ further =
     ∷ example "limit: 12 rows named, 8 links, 10 digits, a budget of 32 bits; of an input 65,536 bytes and 512 rows"
     (figures .named ∷ figures .longest ∷ figures .digits ∷ figures .budget ∷ figures .input ∷ figures .«input_rows» ∷ [])
     (12 ∷ 8 ∷ 10 ∷ 4_294_967_295 ∷ 65_536 ∷ 512 ∷ [])
-    ∷ example "layout: 3 words of a row, 8 of a head, 16 of an entry, 4,096 of all entries"
+    ∷ example "layout: 4 words of a row, 8 of a head, 16 of an entry, 4,096 of all entries"
     (figures .«row_words» ∷ figures .head ∷ figures .«entry_words» ∷ figures .«entries_words» ∷ [])
-    (3 ∷ 8 ∷ 16 ∷ 4_096 ∷ [])
+    (4 ∷ 8 ∷ 16 ∷ 4_096 ∷ [])
     ∷ example "limit: 64 variables, and variable 64"
-    (loading 64 (row (x 64 ∷ not-x 1 ∷ []) 1) 1 4107)
+    (loading 64 (row (x 64 ∷ not-x 1 ∷ []) 1) 1 (deskWords 1))
     []
     ∷ example "limit: 65 variables"
-    (loading 65 [] 0 4104)
+    (loading 65 [] 0 (deskWords 0))
     (1 ∷ 0 ∷ [])
-    ∷ example "limit: table words are a multiple of 3"
-    (loading 1 (0 ∷ 0 ∷ []) 1 4107)
+    ∷ example "limit: table words are a multiple of 4"
+    (loading 1 (0 ∷ 0 ∷ 1 ∷ []) 1 (deskWords 1))
     (2 ∷ 0 ∷ [])
     ∷ example "limit: the most rows: not 2, but 3 where C is one below"
     (loading 0 (empties mostRows) (mostRows - 1) (deskWords mostRows))
@@ -106,7 +106,7 @@ further =
     (loading 0 (empties (suc mostRows)) (mostRows - 1) (deskWords mostRows))
     (2 ∷ 0 ∷ [])
     ∷ example "limit: C = the rows loaded"
-    (loading 0 (empties 2) 2 4110)
+    (loading 0 (empties 2) 2 (deskWords 2))
     []
     ∷ example "limit: C at its most"
     (loading 0 [] mostCapacity (deskWords mostCapacity))
@@ -114,33 +114,33 @@ further =
     ∷ example "limit: C one above"
     (loading 0 [] (suc mostCapacity) (deskWords (suc mostCapacity)))
     (3 ∷ 0 ∷ [])
-    ∷ example "limit: of 8 + 3C + 4,096 words one is missing"
-    (loading 0 [] 1000 7103)
+    ∷ example "limit: of 8 + 4C + 4,096 words one is missing"
+    (loading 0 [] 1000 8103)
     (4 ∷ 0 ∷ [])
     ∷ example "limit: a variable both ways, in row 1"
-    (loading 2 (row [] 1 ++ row (x 2 ∷ not-x 2 ∷ []) 0) 2 4110)
+    (loading 2 (row [] 1 ++ row (x 2 ∷ not-x 2 ∷ []) 0) 2 (deskWords 2))
     (5 ∷ 1 ∷ [])
     ∷ example "limit: a variable above the count"
-    (loading 63 (row (x 64 ∷ []) 1) 1 4107)
+    (loading 63 (row (x 64 ∷ []) 1) 1 (deskWords 1))
     (5 ∷ 0 ∷ [])
     ∷ example "limit: weight 1,000,000,000"
-    (loading 0 (row [] 1_000_000_000) 1 4107)
+    (loading 0 (row [] 1_000_000_000) 1 (deskWords 1))
     []
     ∷ example "limit: weight 1,000,000,001, in row 1"
-    (loading 0 (row [] 1 ++ row [] 1_000_000_001) 2 4110)
+    (loading 0 (row [] 1 ++ row [] 1_000_000_001) 2 (deskWords 2))
     (6 ∷ 1 ∷ [])
     ∷ example "limit: weight 0"
-    (loading 0 (row [] 0) 1 4107)
+    (loading 0 (row [] 0) 1 (deskWords 1))
     (6 ∷ 0 ∷ [])
     ∷ example "limit: a reading of 2 variables, and of 3"
     (weightNumber (weighed 2 p8 3) ++ weightNumber (weighed 2 p8 4))
-    (1 ∷ 8 ∷ 0 ∷ [])
+    (1 ∷ 1 ∷ 8 ∷ 0 ∷ [])
     ∷ example "layout: an accepted load, and two words past the desk"
-    (but 11 4110 (loadDesk 1 (row (not-x 1 ∷ []) 7) 2 (replicate 4112 9)))
-    ((1 ∷ 1 ∷ 2 ∷ 0 ∷ 0 ∷ 0 ∷ 0 ∷ 1 ∷ 0 ∷ 1 ∷ 7 ∷ []) ++ (0 ∷ 9 ∷ 9 ∷ []))
+    (but 12 4112 (loadDesk 1 (row (not-x 1 ∷ []) 7) 2 (replicate 4114 9)))
+    ((1 ∷ 1 ∷ 2 ∷ 0 ∷ 0 ∷ 0 ∷ 0 ∷ 1 ∷ 0 ∷ 1 ∷ 7 ∷ 0 ∷ []) ++ (0 ∷ 9 ∷ 9 ∷ []))
     ∷ example "layout: a refused load leaves the words as found"
-    (but 3 4110 (loadDesk 1 (row (not-x 2 ∷ []) 7) 2 (replicate 4112 9)))
-    (9 ∷ 9 ∷ 9 ∷ 36_963 ∷ 9 ∷ 9 ∷ [])
+    (but 3 4112 (loadDesk 1 (row (not-x 2 ∷ []) 7) 2 (replicate 4114 9)))
+    (9 ∷ 9 ∷ 9 ∷ 36_981 ∷ 9 ∷ 9 ∷ [])
     ∷ example "limit: (b) with 64 variables, the most rows loaded, C in use, 256 steps"
     (answerOf (inLimits (64 ∷ mostCapacity ∷ mostCapacity ∷ 256 ∷ 0 ∷ 0 ∷ 0 ∷ mostRows ∷ [])))
     (1 ∷ [])
@@ -238,17 +238,17 @@ further =
     (rewrite 4 (from 0 5)))
     []
     ∷ example "layout: P5's chain: the head, rows, its entry, and two words past the desk"
-    (but 36 4116 (afterCall (desk 2 p5 4) (rewrite 3 (0 ∷ 2 ∷ 1 ∷ []))))
-    ((2 ∷ 4 ∷ 4 ∷ 1 ∷ 2 ∷ 0 ∷ 0 ∷ 3 ∷ []) ++ ((1 ∷ 0 ∷ 1 ∷ 2 ∷ 0 ∷ 3 ∷ 0 ∷ 3 ∷ 0 ∷ 3 ∷ 0 ∷ 2 ∷ [])
+    (but 40 4120 (afterCall (desk 2 p5 4) (rewrite 3 (0 ∷ 2 ∷ 1 ∷ []))))
+    ((2 ∷ 4 ∷ 4 ∷ 1 ∷ 2 ∷ 0 ∷ 0 ∷ 3 ∷ []) ++ ((1 ∷ 0 ∷ 1 ∷ 0 ∷ 2 ∷ 0 ∷ 3 ∷ 0 ∷ 0 ∷ 3 ∷ 0 ∷ 0 ∷ 3 ∷ 0 ∷ 2 ∷ 0 ∷ [])
     ++ (3 ∷ 2 ∷ 3 ∷ 0 ∷ 2 ∷ 1 ∷ (replicate 9 0 ++ (3 ∷ 0 ∷ 9 ∷ 9 ∷ [])))))
     ∷ example "limit: a chain of 8 links names 10 rows, 0 in those not needed"
-    (words (afterCall (desk 9 (chained 8) 18) (rewrite 3 (from 0 10))) 62 16)
+    (words (afterCall (desk 9 (chained 8) 18) (rewrite 3 (from 0 10))) 80 16)
     (3 ∷ 1 ∷ 10 ∷ (from 0 10 ++ (0 ∷ 0 ∷ 10 ∷ [])))
     ∷ example "limit: a chain of 9 links"
     (calling (desk 10 (chained 9) 20) (rewrite 3 (from 0 11)))
     (13 ∷ 0 ∷ [])
     ∷ example "limit: a fork behind 8 links names 12 rows"
-    (words (afterCall (desk 21 (forking 8) 22) (rewrite 4 (from 0 12))) 74 16)
+    (words (afterCall (desk 21 (forking 8) 22) (rewrite 4 (from 0 12))) 96 16)
     (4 ∷ 1 ∷ 12 ∷ (from 0 12 ++ (12 ∷ [])))
     ∷ example "limit: a fork behind 9 links"
     (calling (desk 21 (forking 9) 24) (rewrite 4 (from 0 13)))
@@ -280,13 +280,39 @@ further =
     ∷ example "line 3: unended"
     (answer (bytes "vars=1\nbudget=1\nrows=0"))
     (bytes "status=refused\nnumber=20\nplace=3\n")
-    ∷ example "line 5: missing"
-    (answer (bytes "vars=2\nbudget=1\nrows=1\nweight=1\n"))
-    (bytes "status=refused\nnumber=20\nplace=5\n")
-    ∷ example "line 7: variables that do not rise"
-    (answer (bytes "vars=2\nbudget=1\nrows=2\nweight=1\nlits=1 2\nweight=1\nlits=-2 1\n"))
+    ∷ example "line 5: missing; 2, with a leading zero, and nothing, for a mark"
+    (answer (bytes "vars=2\nbudget=1\nrows=1\nweight=1\n") ++ (answer (bytes "vars=2\nbudget=1\nrows=1\nweight=1\nhard=2\nlits=1\n")
+    ++ (answer (bytes "vars=2\nbudget=1\nrows=1\nweight=1\nhard=00\nlits=1\n") ++ answer (bytes "vars=2\nbudget=1\nrows=1\nweight=1\nhard=\nlits=1\n"))))
+    (bytes "status=refused\nnumber=20\nplace=5\nstatus=refused\nnumber=20\nplace=5\nstatus=refused\nnumber=20\nplace=5\nstatus=refused\nnumber=20\nplace=5\n")
+    ∷ example "line 9: variables that do not rise"
+    (answer (bytes "vars=2\nbudget=1\nrows=2\nweight=1\nhard=0\nlits=1 2\nweight=1\nhard=0\nlits=-2 1\n"))
+    (bytes "status=refused\nnumber=20\nplace=9\n")
+    ∷ example "line 7: it follows the last row"
+    (answer (bytes "vars=2\nbudget=1\nrows=1\nweight=1\nhard=0\nlits=1 2\n\n"))
     (bytes "status=refused\nnumber=20\nplace=7\n")
-    ∷ example "line 6: it follows the last row"
-    (answer (bytes "vars=2\nbudget=1\nrows=1\nweight=1\nlits=1 2\n\n"))
-    (bytes "status=refused\nnumber=20\nplace=6\n")
+    ∷ example "hard: two rows that clash are impossible; budget 0 stops, with 2 nodes to go"
+    (answer (bytes "vars=1\nbudget=100\nrows=2\nweight=0\nhard=1\nlits=1\nweight=0\nhard=1\nlits=-1\n")
+    ++ answer (bytes "vars=1\nbudget=2\nrows=2\nweight=0\nhard=1\nlits=1\nweight=0\nhard=1\nlits=-1\n"))
+    (bytes "status=impossible\nweight=none\nnodes=3\nreading=none\nconceded=0\nlost=0\nforeseen=0\n"
+    ++ bytes "status=stopped\nweight=none\nnodes=2\nreading=none\nconceded=0\nlost=0\nforeseen=0\n")
+    ∷ example "hard: a hard row against heavier soft ones"
+    (answer (bytes "vars=1\nbudget=100\nrows=3\nweight=7\nhard=0\nlits=1\nweight=0\nhard=1\nlits=-1\nweight=2\nhard=0\nlits=1\n"))
+    (bytes "status=done\nweight=9\nnodes=3\nreading=-1\nconceded=0\nlost=0\nforeseen=0\n")
+    ∷ example "hard: of two facts with large weights that clash the search breaks one"
+    (answer (bytes "vars=1\nbudget=100\nrows=2\nweight=500000000\nhard=0\nlits=1\nweight=500000000\nhard=0\nlits=-1\n"))
+    (bytes "status=done\nweight=500000000\nnodes=3\nreading=1\nconceded=0\nlost=0\nforeseen=500000000\n")
+    ∷ example "hard: with a weight, and another fourth word, are 6"
+    (loading 1 (rowWordsOf (markedRow (x 1) 1 1)) 1 (deskWords 1) ++ loading 1 (rowWordsOf (markedRow (x 1) 1 2)) 1 (deskWords 1))
+    (6 ∷ 0 ∷ 6 ∷ 0 ∷ [])
+    ∷ example "hard: both are 10 on a desk"
+    (calling (set (desk 1 (rowWordsOf (hardRow (x 1))) 1) 10 1) takeBack ++ calling (set (desk 1 (rowWordsOf (hardRow (x 1))) 1) 11 2) takeBack)
+    (10 ∷ 0 ∷ 10 ∷ 0 ∷ [])
+    ∷ example "hard: a row named by a rewriting is 14, and in the last entry 10"
+    (calling (desk 1 (row (x 1 ∷ []) 3 ++ rowWordsOf (hardRow (not-x 1))) 2) (rewrite 3 (0 ∷ 1 ∷ []))
+    ++ calling (set (afterCall (desk 1 (row (x 1 ∷ []) 3 ++ row (not-x 1 ∷ []) 3) 2) (rewrite 3 (0 ∷ 1 ∷ []))) 11 1) takeBack)
+    (14 ∷ 0 ∷ 10 ∷ 0 ∷ [])
+    ∷ example "hard: weights of readings, and whether every hard row holds"
+    (weightNumber (weighed 1 (row (x 1 ∷ []) 3 ++ rowWordsOf (hardRow (not-x 1))) 1)
+    ++ weightNumber (weighed 1 (row (x 1 ∷ []) 3 ++ rowWordsOf (hardRow (not-x 1))) 0))
+    (0 ∷ 0 ∷ 3 ∷ 1 ∷ [])
     ∷ []

@@ -41,6 +41,7 @@ refusalText r = line "status=" (bytes "refused") ++ (line "number=" (numberText 
 abbrev pub statusText : Status → List ℕ
 statusText Status.Done = bytes "done"
 statusText Status.Stopped = bytes "stopped"
+statusText Status.Impossible = bytes "impossible"
 
 abbrev pub weightText : Best → List ℕ
 weightText Best.Nothing = bytes "none"

@@ -20,7 +20,7 @@ use Rattle.rules.specs.declared.Refusal.the-variants.{BadText}
 use Rattle.rules.specs.declared.Judged.{Judged}
 use Rattle.rules.specs.declared.Judged.the-variants.{Fine, Refused}
 use Rattle.rules.specs.Refusals.{_when_, asIn, firstDue, unlessRefused}
-use Rattle.rules.specs.Table.{newRow, rowWordsOf}
+use Rattle.rules.specs.Table.{hardMark, markedRow, rowWordsOf}
 use Rattle.rules.specs.Text.{bytes, lineFeed, space, minus, digitZero, mostDigits, figuresOrder}
 
 -- the line on which the rows begin, counted from 1, and the lines of a row
@@ -28,7 +28,7 @@ abbrev pub firstRowLine : ℕ
 firstRowLine = 4
 
 abbrev pub rowLines : ℕ
-rowLines = 2
+rowLines = 3
 
 -- these bytes stand at the place
 unfoldable pub stands : List ℕ → ℕ → List ℕ → Bool
@@ -103,13 +103,19 @@ abbrev pub onNumber : {A : Type 0} → Parsed → A → (ℕ → ℕ → A) → 
 onNumber (Parsed.Number value next) broken go = go value next
 onNumber Parsed.Broken broken go = broken
 
-abbrev pub rowBy : ℕ → ℕ → Listed → RowRead
-rowBy w line (Listed.Literals l next) = RowRead.Lines (newRow l w) next
-rowBy w line Listed.Broken = RowRead.Broken line
+abbrev pub rowBy : ℕ → ℕ → ℕ → Listed → RowRead
+rowBy w m line (Listed.Literals l next) = RowRead.Lines (markedRow l w m) next
+rowBy w m line Listed.Broken = RowRead.Broken line
 
--- a row's two lines, of which the first has this number
+-- "`hard=`, 0 or 1 (else 20)"
+unfoldable pub markLine : List ℕ → ℕ → Parsed
+markLine s at = onNumber (numberLine s at (bytes "hard=")) Parsed.Broken (λ m next. cond (leb m hardMark) (Parsed.Number m next) Parsed.Broken)
+
+-- a row's three lines, of which the first has this number
 unfoldable pub rowAt : List ℕ → ℕ → ℕ → RowRead
-rowAt s at line = onNumber (numberLine s at (bytes "weight=")) (RowRead.Broken line) (λ w next. rowBy w (line + 1) (litsLine s next))
+rowAt s at line =
+    onNumber (numberLine s at (bytes "weight=")) (RowRead.Broken line) (λ w next.
+    onNumber (markLine s next) (RowRead.Broken (line + 1)) (λ m next. rowBy w m (line + 2) (litsLine s next)))
 
 -- What the rows of a text come to: their words and the place behind them, or the first line that breaks the form.
 pub data RowsRead : Type 0 where

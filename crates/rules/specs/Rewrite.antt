@@ -14,7 +14,7 @@ use Rattle.literals.specs.Lits.{noLits, negatedLits, together, less, variablesO
 use Rattle.rules.specs.declared.Refusal.the-variants.{BadDesk, TooManySteps, BadNaming, BadFit, DeskFull}
 use Rattle.rules.specs.declared.Judged.{Judged}
 use Rattle.rules.specs.Refusals.{_when_, firstDue, unlessRefused}
-use Rattle.rules.specs.Table.{newRow}
+use Rattle.rules.specs.Table.{newRow, isHard}
 use Rattle.rules.specs.Desk.{inUse, capacity, standing, conceded, mostSteps, rowOn, setRow, wellFormed, decisions, satisfied, spent}
 use Rattle.rules.specs.Decide.{entered}
 use Rattle.rules.specs.Steps.{mostNamed, wellNamed, remnantOf, stored, empties, reweighed}
@@ -93,10 +93,10 @@ gives kind n f =
 unfoldable pub given : List ℕ → ℕ → List ℕ → List Lits
 given d kind named = gives kind (length named) (remnantOf d named)
 
--- 14: a named row spent or satisfied, or the remnants don't fit
+-- 14: a named row spent or satisfied, or the remnants don't fit; "Rewritings refuse hard rows with 14"
 unfoldable pub wellFitted : List ℕ → ℕ → List ℕ → Bool
 wellFitted d kind named =
-    every (length named) (λ i. not (spent (rowOn d (getD named i 0)) || satisfied (decisions d) (rowOn d (getD named i 0) .lits)))
+    every (length named) (λ i. let row = rowOn d (getD named i 0) in not (isHard row || (spent row || satisfied (decisions d) (row .lits))))
     && fits kind (length named) (remnantOf d named)
 
 -- Rewriting: 10, 11, 13, 14, 15.

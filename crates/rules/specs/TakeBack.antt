@@ -10,8 +10,8 @@ use Rattle.masks.specs.Words.{zeroed}
 use Rattle.rules.specs.declared.Refusal.the-variants.{BadDesk, NothingStands}
 use Rattle.rules.specs.declared.Judged.{Judged}
 use Rattle.rules.specs.Refusals.{_when_, firstDue, unlessRefused}
-use Rattle.rules.specs.Table.{rowWords}
-use Rattle.rules.specs.Desk.{inUse, standing, conceded, decided, truths, loaded, entryWords, rowPlace, entryPlace, wellFormed, weightFits}
+use Rattle.rules.specs.Table.{rowWords, isHard}
+use Rattle.rules.specs.Desk.{inUse, standing, conceded, decided, truths, loaded, entryWords, rowPlace, entryPlace, rowOn, wellFormed, weightFits}
 use Rattle.rules.specs.Steps.{mostKind, fewerAdded, concedes, countFits, distinct, reweighed, mostNamed}
 
 -- The last entry and its words.
@@ -71,7 +71,7 @@ unfoldable pub badDecision : List ℕ → Bool
 badDecision d = eqb (lastVariable d) 0 || not (has (decided d) (lastVariable d - 1))
 
 -- a count wrong for the kind; a named row repeated or not below the first new row; first new row below rows loaded, or rows in
--- use above it not what the kind adds; conceded less than the step added; (d) broken afterwards
+-- use above it not what the kind adds; conceded less than the step added; (d) broken afterwards; "or a hard row named in the last entry"
 unfoldable pub badRewriting : List ℕ → Bool
 badRewriting d =
     not (countFits (lastKind d) (lastCount d))
@@ -79,7 +79,8 @@ badRewriting d =
     || (ltb (lastFirst d) (loaded d)
     || (not (eqb (inUse d + fewerAdded (lastKind d)) (lastFirst d + lastCount d) || mergedEmpty d)
     || (ltb (conceded d) (lastConceded d)
-    || not (weightFits (undoRewriting d))))))
+    || (not (every (lastCount d) (λ i. not (isHard (rowOn d (lastNamed d i)))))
+    || not (weightFits (undoRewriting d)))))))
 
 -- "kind above 4", and what is bad in a decision or in a rewriting
 unfoldable pub badLast : List ℕ → Bool

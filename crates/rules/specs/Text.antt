@@ -68,13 +68,14 @@ litsText (suc v) l =
     (cond (has (l .negative) v) (behind before (minus ∷ numberText (suc v))) before)
 
 unfoldable pub rowText : Row → List ℕ
-rowText row = line "weight=" (numberText (row .weight)) ++ line "lits=" (litsText mostVariables (row .lits))
+rowText row =
+    line "weight=" (numberText (row .weight)) ++ (line "hard=" (numberText (row .mark)) ++ line "lits=" (litsText mostVariables (row .lits)))
 
 unfoldable pub rowsText : List ℕ → ℕ → List ℕ
 rowsText table zero = []
 rowsText table (suc k) = rowsText table k ++ rowText (rowOf table k)
 
--- "Order: vars=, budget=, rows=, then per row weight= and lits=."
+-- "Order: vars=, budget=, rows=, then per row weight=[, hard=] and lits=."
 unfoldable pub tableText : ℕ → ℕ → List ℕ → List ℕ
 tableText variables budget table =
     line "vars=" (numberText variables)

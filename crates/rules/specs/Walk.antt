@@ -15,7 +15,8 @@ use Rattle.rules.specs.declared.Searched.{Searched}
 use Rattle.rules.specs.declared.Judged.{Judged}
 use Rattle.rules.specs.declared.Judged.the-variants.{Fine, Refused}
 use Rattle.rules.specs.Desk.{variables, decided, weightOn, decisions}
-use Rattle.rules.specs.Bound.{deskWhy}
+use Rattle.rules.specs.Table.{mostWeight}
+use Rattle.rules.specs.Bound.{dead, deskWhy}
 use Rattle.rules.specs.Choice.{boundBy}
 
 -- "a 32-bit number, 0 to 4,294,967,295"
@@ -70,9 +71,10 @@ atStart d = walked 0 (weightOn d + 1) false 0 false
 unfoldable pub walkOf : (Part → ℕ) → (ℕ → Bool) → List ℕ → ℕ → Walked
 walkOf bound first d budget = walk bound first budget (undecided (variables d) (decided d)) (decisions d) (atStart d)
 
--- the price of a node, at which it is cut: its bound, by the one chosen; and the value that is tried first: "tried true, then false"
+-- the price of a node, at which it is cut: its bound, by the one chosen, and more than any best where it is dead; and the value that is tried first:
+-- "tried true, then false"
 abbrev pub priceOf : Choice → List ℕ → Part → ℕ
-priceOf choice d = boundBy choice d
+priceOf choice d p = cond (dead d p) (mostWeight + 1) (boundBy choice d p)
 
 abbrev pub triedFirst : ℕ → Bool
 triedFirst v = true
@@ -81,16 +83,18 @@ triedFirst v = true
 abbrev pub walkIn : List ℕ → Choice → ℕ → Walked
 walkIn d choice budget = walkOf (priceOf choice d) triedFirst d budget
 
-abbrev pub statusOf : Bool → Status
-statusOf true = Status.Stopped
-statusOf false = Status.Done
+-- "A finished search with no reading answers `status=impossible`"
+abbrev pub statusOf : Bool → Bool → Status
+statusOf true kept = Status.Stopped
+statusOf false true = Status.Done
+statusOf false false = Status.Impossible
 
 abbrev pub bestOf : Bool → ℕ → ℕ → Best
 bestOf true weight reading = Best.Reading weight reading
 bestOf false weight reading = Best.Nothing
 
 abbrev pub foundBy : Walked → Found
-foundBy s = record { status = statusOf (s .stopped); best = bestOf (s .kept) (s .best) (s .reading); nodes = s .nodes }
+foundBy s = record { status = statusOf (s .stopped) (s .kept); best = bestOf (s .kept) (s .best) (s .reading); nodes = s .nodes }
 
 abbrev pub searchedAs : Judged → Found → Searched
 searchedAs Fine f = Searched.Found f

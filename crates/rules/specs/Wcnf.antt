@@ -9,7 +9,7 @@ use Rattle.literals.specs.Literal.{mostVariables}
 use Rattle.rules.specs.declared.Row.{Row}
 use Rattle.rules.specs.declared.Written.{Written}
 use Rattle.rules.specs.declared.Judged.{Judged}
-use Rattle.rules.specs.Table.{rowOf, rowCount, tableWhy}
+use Rattle.rules.specs.Table.{rowOf, rowCount, isHard, tableWhy}
 use Rattle.rules.specs.Text.{bytes, lineFeed, space, minus, numberText, textWhy, textWritten, textOut}
 
 -- "top written as the weight sum plus one"
@@ -25,19 +25,19 @@ unfoldable pub spacedLits : ℕ → ℕ → Lits → List ℕ
 spacedLits v zero l = []
 spacedLits v (suc n) l = spacedLiteral v l ++ spacedLits (suc v) n l
 
--- "a line for each clause with weight, literals and a closing 0"
-unfoldable pub clauseText : Row → List ℕ
-clauseText row = numberText (row .weight) ++ (spacedLits 0 mostVariables (row .lits) ++ bytes " 0\n")
+-- "a line for each clause with weight, literals and a closing 0"; "writes hard rows with top"
+unfoldable pub clauseText : ℕ → Row → List ℕ
+clauseText top row = numberText (cond (isHard row) top (row .weight)) ++ (spacedLits 0 mostVariables (row .lits) ++ bytes " 0\n")
 
-unfoldable pub clausesText : List ℕ → ℕ → List ℕ
-clausesText table zero = []
-clausesText table (suc k) = clausesText table k ++ clauseText (rowOf table k)
+unfoldable pub clausesText : ℕ → List ℕ → ℕ → List ℕ
+clausesText top table zero = []
+clausesText top table (suc k) = clausesText top table k ++ clauseText top (rowOf table k)
 
 -- "`p wcnf variables clauses top`"
 unfoldable pub wcnfText : ℕ → List ℕ → List ℕ
 wcnfText variables table =
     bytes "p wcnf " ++ (numberText variables ++ (space ∷ (numberText (rowCount table) ++ (space ∷ (numberText (topOf table)
-    ++ (lineFeed ∷ clausesText table (rowCount table)))))))
+    ++ (lineFeed ∷ clausesText (topOf table) table (rowCount table)))))))
 
 -- Writer: 1, 2, rows, 7, 4.
 abbrev pub wcnfWriteWhy : ℕ → List ℕ → List ℕ → Judged

@@ -27,6 +27,7 @@ use Rattle.rules.specs.Program.{mostInput, mostInputRows, literalsOf, ta
 abbrev pub statementText : Status → List ℕ
 statementText Status.Done = line "s " (bytes "OPTIMUM FOUND")
 statementText Status.Stopped = line "s " (bytes "UNKNOWN")
+statementText Status.Impossible = line "s " (bytes "UNSATISFIABLE")
 
 -- a refusal: its number and its place in a comment
 unfoldable pub wcnfRefusalText : Refusal → List ℕ

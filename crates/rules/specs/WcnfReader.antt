@@ -8,14 +8,15 @@ use lib.IntN.{ℤ, pos, negℤ}
 use Rattle.literals.specs.declared.Lits.{Lits}
 use Rattle.literals.specs.Literal.{mostVariables, size, litsOf}
 use Rattle.literals.specs.Lits.{noLits, together}
+use Rattle.rules.specs.declared.Row.{Row}
 use Rattle.rules.specs.declared.Parsed.{Parsed}
 use Rattle.rules.specs.declared.WcnfHead.{WcnfHead}
 use Rattle.rules.specs.declared.WcnfRead.{WcnfRead}
-use Rattle.rules.specs.declared.Refusal.the-variants.{TooManyVariables, BadTable, NoRoom, BadLiterals, BadText, WeightAtTop}
+use Rattle.rules.specs.declared.Refusal.the-variants.{TooManyVariables, BadTable, NoRoom, BadLiterals, BadText}
 use Rattle.rules.specs.declared.Judged.{Judged}
 use Rattle.rules.specs.declared.Judged.the-variants.{Fine, Refused}
 use Rattle.rules.specs.Refusals.{_when_, asIn, firstDue, unlessRefused}
-use Rattle.rules.specs.Table.{rowWords, rowWordsOf, newRow, badLits}
+use Rattle.rules.specs.Table.{rowWords, rowWordsOf, newRow, hardRow, badLits}
 use Rattle.rules.specs.Text.{bytes, lineFeed, space, minus}
 use Rattle.rules.specs.Reader.{stands, numberAt, ended, onNumber}
 
@@ -103,31 +104,34 @@ someAbove variables (l ∷ ls) = ltb variables (size l) || someAbove variables l
 unfoldable pub badMembers : ℕ → List ℤ → Bool
 badMembers variables ls = someAbove variables ls || badLits variables (litsOfMembers ls)
 
--- "then line by line 20, 5, 21, place being the clause from 0 for the last two": m clauses are left, the next is clause i on this line
-unfoldable pub clausesWhy : ℕ → ℕ → ℕ → ℕ → List ℕ → ℕ → ℕ → Judged
-clausesWhy zero i variables top s at line = firstDue (BadText line when not (eqb at (length s)) ∷ [])
-clausesWhy (suc m) i variables top s at line =
+-- "then line by line 20, 5 [..], place being the clause from 0 for the last": m clauses are left, the next is clause i on this line
+unfoldable pub clausesWhy : ℕ → ℕ → ℕ → List ℕ → ℕ → ℕ → Judged
+clausesWhy zero i variables s at line = firstDue (BadText line when not (eqb at (length s)) ∷ [])
+clausesWhy (suc m) i variables s at line =
     onClause s at (Refused (BadText line)) (λ w ls next.
-    firstDue (BadLiterals i when badMembers variables ls ∷ WeightAtTop i when leb top w
-    ∷ asIn (clausesWhy m (suc i) variables top s next (line + 1)) ∷ []))
+    firstDue (BadLiterals i when badMembers variables ls ∷ asIn (clausesWhy m (suc i) variables s next (line + 1)) ∷ []))
 
 -- "After the header come 1, 2 and 4 by its figures"; the first argument is the most rows that this reader takes
 abbrev pub headerWhy : ℕ → List ℕ → ℕ → WcnfHead → Judged
 headerWhy most s room (WcnfHead.Figures variables clauses top next line) =
     firstDue (TooManyVariables when ltb mostVariables variables ∷ BadTable when ltb most clauses ∷ NoRoom when ltb room (rowWords * clauses)
-    ∷ asIn (clausesWhy clauses 0 variables top s next (line + 1)) ∷ [])
+    ∷ asIn (clausesWhy clauses 0 variables s next (line + 1)) ∷ [])
 headerWhy most s room (WcnfHead.Broken line) = Refused (BadText line)
 
 unfoldable pub wcnfReadWhy : ℕ → List ℕ → ℕ → Judged
 wcnfReadWhy most s room = headerWhy most s room (headerOf s)
 
+-- "WCNF reads weights at top or above as hard"
+abbrev pub clauseRow : ℕ → ℕ → Lits → Row
+clauseRow top w l = cond (leb top w) (hardRow l) (newRow l w)
+
 -- the table that the clauses make
-unfoldable pub clausesWords : ℕ → List ℕ → ℕ → List ℕ
-clausesWords zero s at = []
-clausesWords (suc m) s at = onClause s at [] (λ w ls next. rowWordsOf (newRow (litsOfMembers ls) w) ++ clausesWords m s next)
+unfoldable pub clausesWords : ℕ → ℕ → List ℕ → ℕ → List ℕ
+clausesWords zero top s at = []
+clausesWords (suc m) top s at = onClause s at [] (λ w ls next. rowWordsOf (clauseRow top w (litsOfMembers ls)) ++ clausesWords m top s next)
 
 abbrev pub wordsBehindHeader : List ℕ → WcnfHead → List ℕ
-wordsBehindHeader s (WcnfHead.Figures variables clauses top next line) = clausesWords clauses s next
+wordsBehindHeader s (WcnfHead.Figures variables clauses top next line) = clausesWords clauses top s next
 wordsBehindHeader s (WcnfHead.Broken line) = []
 
 unfoldable pub wcnfWords : List ℕ → List ℕ

@@ -10,10 +10,11 @@ mod ties;
 pub use heads::word;
 pub use ties::all_figures;
 
-// A row of a table: its literals and its weight.
+// A row of a table: its literals, its weight, and its mark, 1 for a hard row and 0 for a soft one.
 pub struct Row {
     pub lits: Lits,
     pub weight: u64,
+    pub mark: u64,
 }
 
 // The first words of a desk, which say how the rest lies.
@@ -70,6 +71,7 @@ pub struct Walked {
 pub enum Status {
     Done,
     Stopped,
+    Impossible,
 }
 
 // The best reading that a search met.
@@ -107,8 +109,6 @@ pub enum Refusal {
     InputTooLong,
     // The line.
     BadText(u64),
-    // The clause.
-    WeightAtTop(u64),
 }
 
 // A refusal's number and place.
@@ -120,9 +120,9 @@ pub enum Judged {
     Refused(Refusal),
 }
 
-// The weight of a reading, or why there is none.
+// The weight of a reading and whether every hard row holds, or why there is none.
 pub enum Weighed {
-    Weight(u64),
+    Weight { weight: u64, hold: bool },
     Refused(Refusal),
 }
 
@@ -183,7 +183,7 @@ pub enum Listed {
     Broken,
 }
 
-// The two lines of a row and the place behind them, or the line that breaks the form.
+// The three lines of a row and the place behind them, or the line that breaks the form.
 pub enum RowRead {
     Lines { row: Row, next: usize },
     Broken(u64),

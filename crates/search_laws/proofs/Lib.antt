@@ -1,2 +1,3 @@
+pub mod Chief
 pub mod Either
 pub mod Answers

@@ -4,7 +4,7 @@
 use Prim.Native.Nat.{ℕ, zero, suc, _+_, _-_, _*_, _≤_, _<_}
 use mathlib.Core.Path.{_≡_, refl, sym, ap, _∙_}
 use mathlib.Core.Logic.{_⊎_, inl, inr, ⊎-elim}
-use mathlib.Core.Bool.{Bool, true, false, cond, _&&_, _||_, or-true}
+use mathlib.Core.Bool.{Bool, true, false, cond, not, _&&_, _||_, or-true}
 use mathlib.Core.List.{List, [], _∷_}
 use native.Mathlib.Nat.{le-trans, mul-add, mul-le-mul-left}
 use native.Mathlib.Omega.{arith}
@@ -17,7 +17,7 @@ use Rattle.masks.proofs.Choice.{lt-or-le, same-test}
 use Rattle.masks.proofs.Sums.{sum-ext, smallest-le, every-true}
 use Rattle.literals.specs.declared.Lits.{Lits}
 use Rattle.rules.specs.declared.Judged.the-variants.{Fine}
-use Rattle.rules.specs.Table.{mostWeight}
+use Rattle.rules.specs.Table.{mostWeight, isHard, badMark}
 use Rattle.rules.specs.Desk.{headWords, variables, inUse, capacity, standing, conceded, decided, truths, loaded, entryWords, rowPlace, entryPlace}
 use Rattle.rules.specs.Desk.{deskWords, rowOn, weightOn, weightFits, decisions, remnant}
 use Rattle.rules.specs.Rewrite.{apartFrom, given, lightest}
@@ -26,7 +26,7 @@ use Rattle.rules.specs.TakeBack.{lastKind, lastCount, lastNamed, lastFirst, mer
 use Rattle.rules.specs.TakeBack.{badLast, takeBackWhy}
 use Rattle.step_laws.specs.Clean.{Clean}
 use Rattle.desk_laws.proofs.Formed.{Sound, Formed, well, rows-inside}
-use Rattle.desk_laws.proofs.Stores.{Distinct, laid-before, laid-at, reweighed-out, reweighed-lits, length-reweighed}
+use Rattle.desk_laws.proofs.Stores.{Distinct, laid-before, laid-at, reweighed-out, reweighed-keeps, reweighed-lits, reweighed-marked, length-reweighed}
 use Rattle.desk_laws.proofs.Verdicts.{Rewritten}
 use Rattle.step_laws.proofs.Entries.{entry-past, entry-next}
 use Rattle.desk_laws.proofs.Weights.{missed, measured, weight-measured}
@@ -178,6 +178,24 @@ module _ (d : List ℕ) (kind : ℕ) (named : List ℕ) (ok : Rewritten d kind n
       (each-at (Sound (variables d)) new (stored-each (Sound (variables d)) rows (debts .sound)) (i - inUse d) place))
       (lt-or-le i (inUse d)))
 
+  row-marked : (i : ℕ) → i < inUse d + length new → badMark (rowOn after i) ≡ false
+  unfolding rowsAfter given badMark isHard
+  row-marked i h =
+      let f : List ℕ = reweighed (λ x. x - w) (λ j. getD named j 0) d (length named) in
+      let inside : rowPlace (inUse d + length new) ≤ length f =
+      rw (length-reweighed (λ x. x - w) (λ j. getD named j 0) d (length named)) (rows-inside (ok .desk) (inUse d + length new) (ok .space)) in
+      let lent : (j : ℕ) → j < length named → rowPlace (suc (getD named j 0)) ≤ length d =
+      λ j l. rows-inside (ok .desk) (suc (getD named j 0)) (omega (arith, ok .used j l, ok .desk .fitting)) in
+      rw (rewritten-row d kind w named new owed plan i (omega (arith, ok .space)))
+      (⊎-elim
+      (λ l.
+      rw (laid-before f (inUse d) w new i l)
+      (reweighed-marked (λ x. x - w) (λ j. getD named j 0) d (length named) lent (ok .soft) i (ok .desk .marked i l)))
+      (λ l.
+      let e : inUse d + (i - inUse d) ≡ i = omega arith in
+      rw (← e, laid-at f (inUse d) w new inside (i - inUse d) (omega arith)))
+      (lt-or-le i (inUse d)))
+
   pub rewritten-formed : Formed after
   rewritten-formed =
       let f = ok .desk in
@@ -196,6 +214,7 @@ module _ (d : List ℕ) (kind : ℕ) (named : List ℕ) (ok : Rewritten d kind n
         fitting = rw (u, c) (ok .space);
         steps = rw (rewritten-standing d kind w named new owed plan) (omega (arith, ok .room));
         sound = λ i h. rw v (row-sound i (rw u at h));
+        marked = λ i h. row-marked i (rw u at h);
         light = le-trans weight-no-more (f .light);
         nested = rw (t, m) (f .nested);
         within = rw (m, v) (f .within);
@@ -243,6 +262,20 @@ module _ (d : List ℕ) (kind : ℕ) (named : List ℕ) (ok : Rewritten d kind n
       (λ q. rw (eq-eqb kind 1 (q .0), eq-eqb (length new) 0 (q .1)) (or-true (eqb (inUse d + length new + fewerAdded kind) (inUse d + length named))))
       (debts .adds))
 
+  -- a named row is as soft as it was
+  named-soft : (i : ℕ) → i < length named → isHard (rowOn after (getD named i 0)) ≡ false
+  unfolding rowsAfter isHard
+  named-soft i l =
+      let f : List ℕ = reweighed (λ x. x - w) (λ j. getD named j 0) d (length named) in
+      let lent : (j : ℕ) → j < length named → rowPlace (suc (getD named j 0)) ≤ length d =
+      λ j l. rows-inside (ok .desk) (suc (getD named j 0)) (omega (arith, ok .used j l, ok .desk .fitting)) in
+      rw (
+        rewritten-row d kind w named new owed plan (getD named i 0) (omega (arith, ok .used i l, ok .space)),
+        laid-before f (inUse d) w new (getD named i 0) (ok .used i l),
+        reweighed-keeps (λ x. x - w) (λ j. getD named j 0) d (λ r. r .mark) (λ r x. refl) (length named) lent (getD named i 0),
+      )
+      (ok .soft i l)
+
   sound-entry : Clean d → badRewriting after ≡ false
   unfolding badRewriting
   sound-entry clean =
@@ -256,13 +289,15 @@ module _ (d : List ℕ) (kind : ℕ) (named : List ℕ) (ok : Rewritten d kind n
       let before : every (lastCount after) (λ i. ltb (lastNamed after i) (lastFirst after)) ≡ true =
       rw n (every-true (length named)
       (λ i l. lt-ltb (lastNamed after i) (lastFirst after) (rw (first, last-named d kind w named new owed plan i l) (ok .used i l)))) in
+      let softs : every (lastCount after) (λ i. not (isHard (rowOn after (lastNamed after i)))) ≡ true =
+      rw n (every-true (length named) (λ i l. rw (last-named d kind w named new owed plan i l, named-soft i l))) in
       let loads : ltb (lastFirst after) (loaded after) ≡ false =
       rw (first, head-same 7 (omega arith)) (le-ltb (inUse d) (loaded d) (ok .desk .kept)) in
       let repaid : ltb (conceded after) (lastConceded after) ≡ false =
       rw (owes, rewritten-conceded d kind w named new owed plan) (le-ltb (conceded d + owed) owed (omega arith)) in
       let light : weightFits (undoRewriting after) ≡ true =
       rw (rewriting-undone d kind w named new owed plan clean owes) (unfold weightFits in le-leb (weightOn d) mostWeight (ok .desk .light)) in
-      rw (counts, once, before, loads, adds-as, repaid, light)
+      rw (counts, once, before, loads, adds-as, repaid, softs, light)
 
   pub back-fine : Clean d → takeBackWhy after ≡ Fine
   unfolding takeBackWhy badLast

@@ -14,7 +14,7 @@ use Rattle.masks.proofs.Choice.{eq-or-ne, lt-or-le}
 use Rattle.literals.specs.declared.Lits.{Lits}
 use Rattle.rules.specs.declared.Row.{Row}
 use Rattle.rules.specs.declared.Part.{Part}
-use Rattle.rules.specs.Table.{rowWordsOf, withWeight, newRow}
+use Rattle.rules.specs.Table.{rowWordsOf, withWeight, newRow, isHard}
 use Rattle.rules.specs.Desk.{headWords, inUse, capacity, standing, decided, truths, rowPlace, entryPlace, deskWords}
 use Rattle.rules.specs.Desk.{rowOn, setRow, setWeight, wellFormed, decisions, satisfied, remnant, spent}
 use Rattle.rules.specs.Decide.{entered, badLiteral, decideWhy, decisionEntry, decideStep}
@@ -146,7 +146,8 @@ module _ (c : ℕ) (d e : List ℕ) (kind : ℕ) (named : List ℕ) (a : Alike c
   unfolding wellFitted
   fitted-same =
       ap₂ (λ (x y : Bool). x && y)
-      (ap₂ (λ (p : Part) (f : ℕ → Row). every (length named) (λ i. not (spent (f i) || satisfied p (f i .lits)))) (decisions-same c d e a) rows-same)
+      (ap₂ (λ (p : Part) (f : ℕ → Row). every (length named) (λ i. not (isHard (f i) || (spent (f i) || satisfied p (f i .lits)))))
+      (decisions-same c d e a) rows-same)
       (ap (fits kind (length named)) remnants-same)
 
   pub rewrite-alike : Alike c (rewriteStep d kind named) (rewriteStep e kind named)

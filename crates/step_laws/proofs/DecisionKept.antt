@@ -106,6 +106,9 @@ module _ (d : List ℕ) (l : ℤ) (ok : Decided d l) where
         sound = λ i h.
             let here : i < inUse d = rw same-use at h in
             rw (same-variables, decided-row d l i (omega (arith, f .fitting))) (f .sound i here);
+        marked = λ i h.
+            let here : i < inUse d = rw same-use at h in
+            rw (decided-row d l i (omega (arith, f .fitting))) (f .marked i here);
         light = rw (weight-measured (decideStep d l), decided-measured (λ k. 1), ← weight-measured d) (f .light);
         nested = rw (decided-truths d l (head-inside (ok .desk)), decided-decided d l (head-inside (ok .desk))) nests;
         within =

@@ -12,6 +12,8 @@ use Rattle.masks.specs.Sums.{every}
 use Rattle.masks.proofs.Choice.{and-left, and-right, both, or-none}
 use Rattle.masks.proofs.Sums.{every-at, every-true}
 use Rattle.literals.specs.declared.Lits.{Lits}
+use Rattle.rules.specs.declared.Row.{Row}
+use Rattle.rules.specs.Table.{isHard}
 use Rattle.rules.specs.Desk.{variables, inUse, decisions, satisfied, rowOn, spent}
 use Rattle.rules.specs.Rewrite.{fits, given, wellFitted}
 use Rattle.rules.specs.Steps.{fewest, countFits, distinct, wellNamed, remnantOf}
@@ -54,9 +56,12 @@ module _ (d : List ℕ) (kind : ℕ) (named : List ℕ) where
         used = λ i l. ltb-true (getD named i 0) (inUse d) (every-at n (λ i. ltb (getD named i 0) (inUse d)) (and-left inside apart n3) i l);
       }
 
-  -- a named row that is neither spent nor satisfied
+  -- a named row that is neither hard nor spent nor satisfied
+  abbrev closed : ℕ → Bool
+  closed i = spent (rowOn d (getD named i 0)) || satisfied (decisions d) (rowOn d (getD named i 0) .lits)
+
   abbrev live : ℕ → Bool
-  live i = not (spent (rowOn d (getD named i 0)) || satisfied (decisions d) (rowOn d (getD named i 0) .lits))
+  live i = not (isHard (rowOn d (getD named i 0)) || closed i)
 
   module _ (desk : Formed d) (ok : wellNamed d kind named ≡ true) where
     sound : (i : ℕ) → i < length named → Sound (variables d) (remnantOf d named i)
@@ -69,13 +74,14 @@ module _ (d : List ℕ) (kind : ℕ) (named : List ℕ) where
     fitted-words e =
         let n : ℕ = length named in
         let w = well-named ok in
-        let row : (i : ℕ) → i < n → (spent (rowOn d (getD named i 0)) ≡ false) × (satisfied (decisions d) (rowOn d (getD named i 0) .lits) ≡ false) =
-        λ i l. or-none (spent (rowOn d (getD named i 0))) (satisfied (decisions d) (rowOn d (getD named i 0) .lits))
-        (not-true (spent (rowOn d (getD named i 0)) || satisfied (decisions d) (rowOn d (getD named i 0) .lits))
-        (every-at n live (and-left (every n live) (fits kind n (remnantOf d named)) e) i l)) in
+        let row : ℕ → Row = λ i. rowOn d (getD named i 0) in
+        let each : (i : ℕ) → i < n → (isHard (row i) ≡ false) × (closed i ≡ false) =
+        λ i l. or-none (isHard (row i)) (closed i)
+        (not-true (isHard (row i) || closed i) (every-at n live (and-left (every n live) (fits kind n (remnantOf d named)) e) i l)) in
         record {
-          unspent = λ i l. row i l .0;
-          unsatisfied = λ i l. row i l .1;
+          soft = λ i l. each i l .0;
+          unspent = λ i l. or-none (spent (row i)) (satisfied (decisions d) (row i .lits)) (each i l .1) .0;
+          unsatisfied = λ i l. or-none (spent (row i)) (satisfied (decisions d) (row i .lits)) (each i l .1) .1;
           line =
               fit-words (variables d) (desk .named) (remnantOf d named) kind n (w .known .0) (w .known .1) (w .count) sound
               (and-right (every n live) (fits kind n (remnantOf d named)) e);
@@ -87,5 +93,5 @@ module _ (d : List ℕ) (kind : ℕ) (named : List ℕ) where
     words-fitted f =
         let w = well-named ok in
         let some = some-named kind (length named) (w .known .0) (w .known .1) (w .count) in
-        both (every-true (length named) (λ i l. rw (f .unspent i l, f .unsatisfied i l)))
+        both (every-true (length named) (λ i l. rw (f .soft i l, f .unspent i l, f .unsatisfied i l)))
         (words-fit (remnantOf d named) (sound 0 some .once) (f .line) .0)

@@ -3,7 +3,7 @@
 use Prim.Native.Nat.{ℕ, suc, _+_, _-_, _*_, _≤_, _<_}
 use mathlib.Core.Path.{_≡_, sym, _∙_}
 use mathlib.Core.Logic.{inl, inr, ⊎-elim}
-use mathlib.Core.Bool.{true, not, _&&_}
+use mathlib.Core.Bool.{true, false, not, _&&_}
 use mathlib.Core.List.{List}
 use native.Mathlib.Nat.{le-trans}
 use native.Mathlib.Omega.{arith}
@@ -12,15 +12,16 @@ use Rattle.masks.specs.Masks.{has, without}
 use Rattle.masks.proofs.Choice.{lt-or-le, and-left, and-right}
 use Rattle.masks.proofs.Bits.{has-without}
 use Rattle.masks.proofs.Sets.{within, within-of, without-lt}
-use Rattle.rules.specs.Table.{mostWeight}
-use Rattle.rules.specs.Desk.{headWords, variables, inUse, capacity, standing, decided, truths, loaded, entryWords, rowPlace, entryPlace, deskWords, weightOn}
+use Rattle.rules.specs.Table.{mostWeight, isHard}
+use Rattle.rules.specs.Desk.{headWords, variables, inUse, capacity, standing, decided, truths, loaded, entryWords}
+use Rattle.rules.specs.Desk.{rowPlace, entryPlace, deskWords, rowOn, weightOn}
 use Rattle.rules.specs.TakeBack.{lastPlace, withdrawn}
 use Rattle.step_laws.specs.Clean.{Clean}
 use Rattle.desk_laws.proofs.Formed.{rows-inside, Formed, head-inside, place-mono}
-use Rattle.desk_laws.proofs.Stores.{reweighed-out}
+use Rattle.desk_laws.proofs.Stores.{reweighed-out, reweighed-marked}
 use Rattle.step_laws.proofs.Entries.{last-past, withdrawn-head, withdrawn-row, length-withdrawn, withdrawn-standing, withdrawn-in, withdrawn-out}
 use Rattle.step_laws.proofs.Undoing.{unset, unset-out, length-unset, unset-row, unset-decided, unset-truths, emptied, length-emptied}
-use Rattle.step_laws.proofs.Undoing.{emptied-use, emptied-freed, emptied-past, emptied-head, emptied-lits}
+use Rattle.step_laws.proofs.Undoing.{emptied-use, emptied-freed, emptied-past, emptied-head, emptied-row, emptied-lits}
 use Rattle.desk_laws.proofs.Weights.{measured-same, weight-measured}
 
 -- ---- the entry withdrawn
@@ -64,6 +65,9 @@ module _ (d : List ℕ) (f : Formed d) (some : 1 ≤ standing d) where
         sound = λ i h.
             let here : i < inUse d = rw (withdrawn-use d) at h in
             rw (v, withdrawn-row d i (omega (arith, f .fitting))) (f .sound i here);
+        marked = λ i h.
+            let here : i < inUse d = rw (withdrawn-use d) at h in
+            rw (withdrawn-row d i (omega (arith, f .fitting))) (f .marked i here);
         light = rw (withdrawn-weight d (f .fitting)) (f .light);
         nested = rw (t, m) (f .nested);
         within = rw (m, v) (f .within);
@@ -120,6 +124,7 @@ module _ (d : List ℕ) (f : Formed d) (v : ℕ) where
         fitting = rw (u, c) (f .fitting);
         steps = rw s (f .steps);
         sound = λ i h. rw (n, unset-row d v i) (f .sound i (rw u at h));
+        marked = λ i h. rw (unset-row d v i) (f .marked i (rw u at h));
         light = rw (weight-measured e, measured-same (λ k. 1) d e (head 4 (omega arith)) u (λ i h. unset-row d v i), ← weight-measured d) (f .light);
         nested = rw (t, m) both-less;
         within = rw (m, n) (without-lt (variables d) v (f .within));
@@ -170,8 +175,8 @@ module _ (d : List ℕ) (f : Formed d) (w : ℕ) (row : ℕ → ℕ) (k first c 
   unfolding rowPlace
   within-use p h = omega arith
 
-  pub freed-formed : weightOn rest ≤ mostWeight → Formed rest
-  freed-formed light =
+  pub freed-formed : ((i : ℕ) → i < k → isHard (rowOn d (row i)) ≡ false) → weightOn rest ≤ mostWeight → Formed rest
+  freed-formed soft light =
       let n : variables rest ≡ variables d = head 0 (omega arith) in
       let cap : capacity rest ≡ capacity d = head 2 (omega arith) in
       let s : standing rest ≡ standing d = head 3 (omega arith) in
@@ -189,6 +194,9 @@ module _ (d : List ℕ) (f : Formed d) (w : ℕ) (row : ℕ → ℕ) (k first c 
         sound = λ i h.
             let here : i < first = rw freed-use at h in
             rw (n, emptied-lits d w row k first (inUse d - first) c inside i here) (f .sound i (omega arith));
+        marked = λ i h.
+            let here : i < first = rw freed-use at h in
+            rw (emptied-row d w row k first (inUse d - first) c i here) (reweighed-marked (λ x. x + w) row d k inside soft i (f .marked i (omega arith)));
         light = light;
         nested = rw (t, m) (f .nested);
         within = rw (m, n) (f .within);

@@ -22,4 +22,5 @@ pub mod Shown
 pub mod InWords
 pub mod Found
 pub mod Frames
+pub mod HardRows
 pub mod Fitted

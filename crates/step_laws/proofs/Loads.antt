@@ -159,6 +159,9 @@ module _ (n : ℕ) (table : List ℕ) (c : ℕ) (d : List ℕ) (ok : Loaded n ta
         sound = λ i h.
             let l : i < rowCount table = rw loaded-use at h in
             rw (loaded-variables, loaded-row i l) (row-sound n (rowOf table i) (ok .fine .rows i l));
+        marked = λ i h.
+            let l : i < rowCount table = rw loaded-use at h in
+            rw (loaded-row i l) (ok .fine .rows i l .marked);
         light = rw (loaded-rest .1, loaded-use, weights) (omega (arith, ok .fine .light));
         nested = rw (loaded-rest .2, loaded-rest .3) (zero-without 0);
         within = rw (loaded-rest .2, loaded-variables) (pow-pos n);

@@ -1,6 +1,7 @@
 -- Any run of calls after an accepted load. A desk reached by calls is the load, or an accepted decision or rewriting on a desk so reached;
 -- taking back its last step gives the desk before it again, and a refused call the desk itself. So each call leads from a reached desk to a reached desk,
--- and what a reached desk is known by (well formed, clean, weights as at the start, the load followed by its standing steps) holds after every run.
+-- and what a reached desk is known by (well formed, clean, weights and hard rows as at the start, the load followed by its standing steps) holds after
+-- every run.
 use Prim.Native.Nat.{ℕ, zero, suc, _+_, _≤_}
 use mathlib.Core.Path.{_≡_, refl, sym, ap, _∙_, subst, subst₂}
 use mathlib.Core.Bool.{Bool, true, false, not, _||_}
@@ -27,9 +28,11 @@ use Rattle.rules.specs.TakeBack.{takeBackWhy, takeBackStep, takeBackDesk}
 use Rattle.rules.specs.Calls.{Call, decide, rewrite, takeBack, load, callWhy, afterCall, afterCalls}
 use Rattle.step_laws.specs.Clean.{Clean}
 use Rattle.step_laws.specs.Framed.{Framed}
+use Rattle.step_laws.specs.HardRows.{HardStay}
 use Rattle.step_laws.specs.Standing.{withoutLast, standingAfter, standingFrom, standingCalls, AllFine, NeverTen, LoadRefused, LoadsRefused}
 use Rattle.step_laws.proofs.Loads.{load-fine, loaded-capacity, loaded-past}
 use Rattle.step_laws.proofs.Frames.{framed-same, framed-then, decide-framed, rewrite-framed}
+use Rattle.step_laws.proofs.HardRows.{hard-same, hard-then, decide-hard, rewrite-hard}
 use Rattle.step_laws.proofs.Steps.{load-formed, load-clean, load-weighs, load-rest, decide-undone, decide-standing, decide-formed}
 use Rattle.step_laws.proofs.Steps.{decide-clean, decide-weighs, decide-keeps, rewrite-undone, rewrite-standing, rewrite-formed, rewrite-clean}
 use Rattle.step_laws.proofs.Steps.{rewrite-weighs, rewrite-keeps}
@@ -82,6 +85,7 @@ pub record Known (start : List ℕ) (weight : ℕ → ℕ) (d : List ℕ) (calls
   pub weights : (reading : ℕ) → keeps d reading ≡ true → deskWeighs d reading ≡ weight reading
   pub replayed : d ≡ afterCalls start calls
   pub framed : Framed start d
+  pub hard : HardStay start d
 
 one-more : (start d : List ℕ) (calls : List Call) (call : Call) → d ≡ afterCalls start calls → callWhy d call ≡ Fine
     → callStep d call ≡ afterCalls start (calls ++ (call ∷ []))
@@ -99,6 +103,7 @@ known start weight k (deciding {d} {calls} m l fine) =
       weights = λ reading h. decide-weighs d l fine reading ∙ before .weights reading (decide-keeps d l fine reading h);
       replayed = one-more start d calls (decide l) (before .replayed) fine;
       framed = framed-then (before .framed) (decide-framed d l fine);
+      hard = hard-then (before .hard) (decide-hard d l fine);
     }
 known start weight k (rewriting {d} {calls} m kind named fine) =
     let before = known start weight k m in
@@ -110,6 +115,7 @@ known start weight k (rewriting {d} {calls} m kind named fine) =
           rewrite-weighs d kind named fine reading kept ∙ before .weights reading kept;
       replayed = one-more start d calls (rewrite kind named) (before .replayed) fine;
       framed = framed-then (before .framed) (rewrite-framed d kind named fine);
+      hard = hard-then (before .hard) (rewrite-hard d kind named fine);
     }
 
 -- ---- on a well-formed desk, a decision or a rewriting is never refused with 10
@@ -150,8 +156,8 @@ unfolding rowsWhy rowWhy
 never-rows n table zero e = fine-not-ten e
 never-rows n table (suc k) e =
     neither-first (rowsWhy n table k) (rowWhy n k (rowOf table k)) (never-rows n table k)
-    (neither-ten (badLits n (rowOf table k .lits)) (BadLiterals k) (refuse (badWeight (rowOf table k .weight)) (BadWeight k) Fine) (λ q. impossible (cc))
-    (neither-ten (badWeight (rowOf table k .weight)) (BadWeight k) Fine (λ q. impossible (cc)) fine-not-ten))
+    (neither-ten (badLits n (rowOf table k .lits)) (BadLiterals k) (refuse (badWeight (rowOf table k)) (BadWeight k) Fine) (λ q. impossible (cc))
+    (neither-ten (badWeight (rowOf table k)) (BadWeight k) Fine (λ q. impossible (cc)) fine-not-ten))
     e
 
 pub never-load : (n : ℕ) (table : List ℕ) (c : ℕ) (d : List ℕ) → loadWhy n table c d ≡ Refused BadDesk → ⊥
@@ -274,6 +280,7 @@ module _ (n : ℕ) (table : List ℕ) (c : ℕ) (d : List ℕ) (fine : loadWhy n
         weights = λ reading h. load-weighs n table c d fine reading;
         replayed = refl;
         framed = framed-same (loadStep n table c d);
+        hard = hard-same (loadStep n table c d);
       }
 
 module _ (n : ℕ) (table : List ℕ) (c : ℕ) (d : List ℕ) (fine : loadWhy n table c d ≡ Fine) (calls : List Call)
@@ -312,6 +319,10 @@ module _ (n : ℕ) (table : List ℕ) (c : ℕ) (d : List ℕ) (fine : loadWhy n
   -- variables, capacity and rows loaded are the load's, and words past the desk were never touched
   pub run-framed : Framed start (afterCalls start calls)
   run-framed = result .framed
+
+  -- hard rows are the load's, row by row
+  pub run-hard : HardStay start (afterCalls start calls)
+  run-hard = result .hard
 
   pub run-past : (p : ℕ) → deskWords c ≤ p → getD (afterCalls start calls) p 0 ≡ getD d p 0
   run-past p h =

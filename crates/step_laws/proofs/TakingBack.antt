@@ -7,7 +7,7 @@ use mathlib.Core.Logic.{⊎-elim}
 use mathlib.Core.Bool.{Bool, true, false, cond, not, _&&_, _||_}
 use mathlib.Core.List.{List}
 use native.Mathlib.Omega.{arith}
-use borrow.Author.Tests.{ltb-true, ltb-false, leb-true, eqb-true, eqb-false, not-false}
+use borrow.Author.Tests.{ltb-true, ltb-false, leb-true, eqb-true, eqb-false, not-false, not-true}
 use lib.Dec.{eqb, ltb}
 use lib.ListN.{getD}
 use Rattle.masks.specs.Masks.{single}
@@ -17,8 +17,8 @@ use Rattle.masks.proofs.Sums.{every-at}
 use Rattle.rules.specs.declared.Refusal.the-variants.{BadDesk, NothingStands}
 use Rattle.rules.specs.declared.Judged.the-variants.{Fine}
 use Rattle.rules.specs.Refusals.{refuse}
-use Rattle.rules.specs.Table.{mostWeight}
-use Rattle.rules.specs.Desk.{headWords, inUse, capacity, standing, conceded, loaded, weightOn, weightFits, wellFormed}
+use Rattle.rules.specs.Table.{mostWeight, isHard}
+use Rattle.rules.specs.Desk.{headWords, inUse, capacity, standing, conceded, loaded, rowOn, weightOn, weightFits, wellFormed}
 use Rattle.rules.specs.Steps.{fewest, fewerAdded, countFits, distinct}
 use Rattle.rules.specs.TakeBack.{lastKind, lastVariable, lastWeight, lastCount, lastNamed, lastFirst, mergedEmpty, lastConceded, undoDecision}
 use Rattle.rules.specs.TakeBack.{undoRewriting, takeBackStep, badDecision, badRewriting, badLast, takeBackWhy}
@@ -53,6 +53,7 @@ pub record Entered (d : List ℕ) : Type 0 where
   pub below : (i : ℕ) → i < lastCount d → lastNamed d i < lastFirst d
   pub loads : loaded d ≤ lastFirst d
   pub fits : lastFirst d ≤ inUse d
+  pub soft : (i : ℕ) → i < lastCount d → isHard (rowOn d (lastNamed d i)) ≡ false
   pub light : weightFits (undoRewriting d) ≡ true
 
 -- no kind adds more rows than it names
@@ -70,12 +71,15 @@ entry-fine d low high e =
     let right : Bool = eqb (inUse d + fewerAdded (lastKind d)) (lastFirst d + lastCount d) in
     let none-added : Bool = eqb (lastKind d) 1 && eqb (inUse d) (lastFirst d) in
     let t5 : Bool = ltb (conceded d) (lastConceded d) in
+    let softs : Bool = every (lastCount d) (λ i. not (isHard (rowOn d (lastNamed d i)))) in
     let t6 : Bool = weightFits (undoRewriting d) in
-    let a = or-none (not t1) (not (once && in-order) || (t3 || (not (right || none-added) || (t5 || not t6)))) e in
-    let b = or-none (not (once && in-order)) (t3 || (not (right || none-added) || (t5 || not t6))) (a .1) in
-    let c = or-none t3 (not (right || none-added) || (t5 || not t6)) (b .1) in
-    let g = or-none (not (right || none-added)) (t5 || not t6) (c .1) in
-    let h = or-none t5 (not t6) (g .1) in
+    let last : Bool = not softs || not t6 in
+    let a = or-none (not t1) (not (once && in-order) || (t3 || (not (right || none-added) || (t5 || last)))) e in
+    let b = or-none (not (once && in-order)) (t3 || (not (right || none-added) || (t5 || last))) (a .1) in
+    let c = or-none t3 (not (right || none-added) || (t5 || last)) (b .1) in
+    let g = or-none (not (right || none-added)) (t5 || last) (c .1) in
+    let k = or-none t5 last (g .1) in
+    let h = or-none (not softs) (not t6) (k .1) in
     let enough = counted (lastKind d) (lastCount d) (not-false t1 (a .0)) in
     record {
       below =
@@ -87,6 +91,9 @@ entry-fine d low high e =
           (λ q. omega (arith, eqb-true (inUse d + fewerAdded (lastKind d)) (lastFirst d + lastCount d) q, enough, never-more (lastKind d) low high))
           (λ q. omega (arith, eqb-true (inUse d) (lastFirst d) (and-right (eqb (lastKind d) 1) (eqb (inUse d) (lastFirst d)) q)))
           (or-cases right none-added (not-false (right || none-added) (g .0)));
+      soft =
+          λ i l. not-true (isHard (rowOn d (lastNamed d i)))
+          (every-at (lastCount d) (λ i. not (isHard (rowOn d (lastNamed d i)))) (not-false softs (h .0)) i l);
       light = not-false t6 (h .1);
     }
 
@@ -120,7 +127,7 @@ module _ (d : List ℕ) (clean : Clean d) (fine : takeBackWhy d ≡ Fine) where
       let rows : inUse e ≡ lastFirst d = emptied-use d w (lastNamed d) (lastCount d) (lastFirst d) (inUse d - lastFirst d) c (head-inside f) in
       let light : weightOn e ≤ mostWeight =
       rw (withdrawn-weight e (omega (arith, f .fitting, n .fits))) at (leb-true (weightOn (undoRewriting d)) mostWeight (n .light)) in
-      let g : Formed e = freed-formed d f w (lastNamed d) (lastCount d) (lastFirst d) c (n .loads) (n .fits) (n .below) light in (
+      let g : Formed e = freed-formed d f w (lastNamed d) (lastCount d) (lastFirst d) c (n .loads) (n .fits) (n .below) (n .soft) light in (
         well (withdrawn-formed e g some),
         withdrawn-clean e g some (freed-clean d f w (lastNamed d) (lastCount d) (lastFirst d) c (n .loads) (n .fits) (n .below) clean),
         framed-then (emptied-framed d f w (lastNamed d) (lastCount d) (lastFirst d) c (n .fits) (n .below)) (withdrawn-framed e g some),

@@ -89,9 +89,12 @@ module _ (d : List ℕ) (w : ℕ) (row : ℕ → ℕ) (k first m c : ℕ) where
   unfolding rowPlace
   emptied-head p o = emptied-below p (o .1) (o .2) (omega arith) ∙ reweighed-head (λ x. x + w) row d k p (o .0)
 
+  pub emptied-row : (i : ℕ) → i < first → rowOn emptied i ≡ rowOn regained i
+  emptied-row i h =
+      row-head (set freed 1 first) 4 c i (omega arith) ∙ row-head freed 1 first i (omega arith)
+      ∙ row-same regained freed i (λ p a b. zeroed-before regained (rowPlace first) (rowWords * m) p (omega (arith, place-mono h)))
+
   pub emptied-lits : ((i : ℕ) → i < k → rowPlace (suc (row i)) ≤ length d) → (i : ℕ) → i < first → rowOn emptied i .lits ≡ rowOn d i .lits
   emptied-lits inside i h =
-      ap (λ (r : Row). r .lits)
-      (row-head (set freed 1 first) 4 c i (omega arith) ∙ row-head freed 1 first i (omega arith)
-      ∙ row-same regained freed i (λ p a b. zeroed-before regained (rowPlace first) (rowWords * m) p (omega (arith, place-mono h))))
+      ap (λ (r : Row). r .lits) (emptied-row i h)
       ∙ reweighed-lits (λ x. x + w) row d k inside i

@@ -1,4 +1,5 @@
 pub mod Clean
 pub mod Standing
 pub mod Framed
+pub mod HardRows
 pub mod StepTable

@@ -10,6 +10,7 @@ use lib.ListN.{length, getD}
 use Rattle.literals.specs.declared.Lits.{Lits}
 use Rattle.literals.specs.Literal.{size, isLiteral, opposite, bitOf, litsOf}
 use Rattle.literals.specs.Lits.{noLits, together, variablesOf}
+use Rattle.rules.specs.Table.{isHard}
 use Rattle.rules.specs.Desk.{rowOn, decisions, satisfied, spent}
 use Rattle.rules.specs.Steps.{remnantOf}
 
@@ -45,8 +46,9 @@ pub data Fits (f : ℕ → Lits) : ℕ → ℕ → List Lits → Type 0 where
       ++ (together (litsOf (l k)) (together (litsOf (opposite b)) (litsOf (opposite c)))
       ∷ together (litsOf (opposite (l k))) (together (litsOf b) (litsOf c)) ∷ [])))
 
--- The named rows of a desk fit a line of the table, which gives these rows: none is spent or satisfied, and their remnants are the line's.
+-- The named rows of a desk fit a line of the table, which gives these rows: none is hard, spent or satisfied, and their remnants are the line's.
 pub record FitsALine (d : List ℕ) (kind : ℕ) (named : List ℕ) (gives : List Lits) : Type 0 where
+  pub soft : (i : ℕ) → i < length named → isHard (rowOn d (getD named i 0)) ≡ false
   pub unspent : (i : ℕ) → i < length named → spent (rowOn d (getD named i 0)) ≡ false
   pub unsatisfied : (i : ℕ) → i < length named → satisfied (decisions d) (rowOn d (getD named i 0) .lits) ≡ false
   pub line : Fits (remnantOf d named) kind (length named) gives

@@ -1,24 +1,32 @@
 // The weight of a reading of a table.
 ghost use mathlib.Core.Path.{_≡_};
+ghost use mathlib.Core.Bool.{not};
 ghost use Prim.Native.Nat.{_*_, _≤_};
 ghost use lib.ListN.{length};
-ghost use Rattle.masks.specs.Sums.{sum};
-ghost use Rattle.rules.specs.Table.{rowWords, mostWeight, rowOf, givenUp, weighed, weighWhy};
+ghost use Rattle.masks.specs.Sums.{sum, every};
+ghost use Rattle.rules.specs.Table.{rowWords, mostWeight, rowOf, givenUp, breaks, weighed, weighWhy};
 use crate::judge::table_why;
 use rules::Judged;
 use rules::Refusal;
 use rules::Row;
 use rules::Weighed;
+use values::breaks;
 use words::inner::row_in;
 
-// What a full reading weighs, or the refusal.
+// What a full reading weighs, and whether every hard row holds, or the refusal.
 pub fn weight_of(variables: u64, table: &[u64], reading: u64) -> Weighed
     ensures { λ r. ⌜ r ≡ weighed variables (now (table .entry)) reading ⌝ }
 {
     let why = weigh_why(variables, table, reading);
     match why {
         Judged::Refused(r) => Weighed::Refused(r),
-        Judged::Fine => Weighed::Weight(given_up(table, table.len() / Row::WORDS, reading)),
+        Judged::Fine => {
+            let n = table.len() / Row::WORDS;
+            Weighed::Weight {
+                weight: given_up(table, n, reading),
+                hold: hard_hold(table, n, reading),
+            }
+        }
     }
 }
 
@@ -48,4 +56,19 @@ fn given_up(table: &[u64], n: usize, reading: u64) -> u64
         i += 1;
     }
     weight
+}
+
+// The reading breaks none of the first n rows that is hard.
+fn hard_hold(table: &[u64], n: usize, reading: u64) -> bool
+    requires { ⌜ rowWords * n ≤ length (now table) ⌝ }
+    ensures { λ r. ⌜ r ≡ every n (λ i. not (breaks (rowOf (now (table .entry)) i) reading)) ⌝ }
+{
+    let mut i = 0;
+    while i < n {
+        if breaks(row_in(table, Row::WORDS * i), reading) {
+            return false;
+        }
+        i += 1;
+    }
+    true
 }

@@ -13,7 +13,7 @@ use Rattle.rules.specs.declared.Choice.{Choice}
 use Rattle.rules.specs.declared.Refusal.{Refusal}
 use Rattle.rules.specs.declared.Refusal.the-variants.{TooManyVariables, BadTable, BadCapacity, NoRoom, BadLiterals, BadWeight, SumTooLarge}
 use Rattle.rules.specs.declared.Refusal.the-variants.{BadReading, BadBudget, BadDesk, TooManySteps, BadLiteral, BadNaming, BadFit, DeskFull}
-use Rattle.rules.specs.declared.Refusal.the-variants.{NothingStands, InputTooLong, BadText, WeightAtTop}
+use Rattle.rules.specs.declared.Refusal.the-variants.{NothingStands, InputTooLong, BadText}
 use Rattle.rules.specs.declared.Judged.{Judged}
 use Rattle.rules.specs.declared.Judged.the-variants.{Fine, Refused}
 use Rattle.rules.specs.declared.Parsed.{Parsed}
@@ -24,7 +24,7 @@ use Rattle.rules.specs.Refusals.{numberOf, placeOf, refuse, inOrder}
 use Rattle.rules.proofs.Admissible.{whole-rows}
 use Rattle.masks.specs.Masks.{below}
 use Rattle.rules.specs.Table.{rowWords, mostRows, rowOf, rowCount, badTable, badLits, badWeight, rowWhy}
-use Rattle.rules.specs.Table.{rowsWhy, sumTooLarge, tableWhy, weighs, weighWhy, weighedAs, weighed, rowWordsOf}
+use Rattle.rules.specs.Table.{rowsWhy, sumTooLarge, tableWhy, weighs, hardHold, weighWhy, weighedAs, weighed, rowWordsOf}
 use Rattle.rules.specs.Desk.{mostCapacity, mostSteps, deskWords, inUse, capacity, standing, decisions, wellFormed, loadWhy}
 use Rattle.rules.specs.Decide.{badLiteral, decideWhy}
 use Rattle.rules.specs.Rewrite.{wellFitted, given, rewriteWhy}
@@ -37,7 +37,7 @@ use Rattle.rules.specs.Text.{bytes, tableText, textWhy, writtenAs, textWritten,
 use Rattle.rules.specs.Wcnf.{wcnfText, wcnfWritten}
 use Rattle.rules.specs.Reader.{firstRowLine, rowLines}
 use Rattle.rules.specs.Program.{answer, answered}
-use Rattle.rules.specs.Reader.{RowsRead, rows, brokenAt, numberLine, litsLine, onNumber, rowBy, onRow}
+use Rattle.rules.specs.Reader.{RowsRead, rows, brokenAt, numberLine, markLine, litsLine, onNumber, rowBy, onRow}
 use Rattle.rules.specs.Reader.{inFront, rowAt, rowsAt, headAt, restWhy, headWhy, readWhy, textReadAs, textRead}
 use Rattle.telling.specs.Told.{byWeighed, byBounded, bySearched, byTextRead, byWritten}
 use Rattle.telling.specs.Room.{placeIn}
@@ -65,7 +65,6 @@ number-small DeskFull = (omega arith, omega arith)
 number-small NothingStands = (omega arith, omega arith)
 number-small InputTooLong = (omega arith, omega arith)
 number-small (BadText line) = (omega arith, omega arith)
-number-small (WeightAtTop clause) = (omega arith, omega arith)
 
 pub as-small : {j k : Judged} → j ≡ k → Small k → Small j
 as-small e s = rw e s
@@ -90,7 +89,7 @@ rows-place n table (suc k) =
     by-first
     (rowsWhy n table k)
     (rows-place n table k)
-    (row-place n k (badLits n (rowOf table k .lits)) (badWeight (rowOf table k .weight)))
+    (row-place n k (badLits n (rowOf table k .lits)) (badWeight (rowOf table k)))
   where
     by-first : (j : Judged) → placeIn j ≤ k → placeIn (rowWhy n k (rowOf table k)) ≤ k → placeIn (inOrder j (rowWhy n k (rowOf table k))) ≤ suc k
     by-first Fine a b = omega (arith, b)
@@ -159,7 +158,7 @@ weighed-small n table reading =
     (table-small n table)
     (refuse-small (not (below reading n)) BadReading Fine (omega arith) (λ _. omega arith)))
   where
-    as-judged : (j : Judged) → Small j → Small (byWeighed (weighedAs j (weighs table reading)))
+    as-judged : (j : Judged) → Small j → Small (byWeighed (weighedAs j (weighs table reading) (hardHold table reading)))
     as-judged Fine e = e
     as-judged (Refused r) e = e
 
@@ -210,16 +209,24 @@ abbrev row-line : RowRead → ℕ
 row-line (RowRead.Lines row next) = 0
 row-line (RowRead.Broken line) = line
 
-row-within : (s : List ℕ) (at line : ℕ) → row-line (rowAt s at line) ≤ line + 1
+row-within : (s : List ℕ) (at line : ℕ) → row-line (rowAt s at line) ≤ line + 2
 unfolding rowAt
 row-within s at line = by-weight (numberLine s at (bytes "weight="))
   where
-    by-lits : (w : ℕ) (l : Listed) → row-line (rowBy w (line + 1) l) ≤ line + 1
-    by-lits w (Listed.Literals l next) = omega arith
-    by-lits w Listed.Broken = omega arith
+    -- what is left of a row behind its weight
+    from-mark : ℕ → Parsed → RowRead
+    from-mark w p = onNumber p (RowRead.Broken (line + 1)) (λ m next. rowBy w m (line + 2) (litsLine s next))
 
-    by-weight : (p : Parsed) → row-line (onNumber p (RowRead.Broken line) (λ w next. rowBy w (line + 1) (litsLine s next))) ≤ line + 1
-    by-weight (Parsed.Number value next) = by-lits value (litsLine s next)
+    by-lits : (w m : ℕ) (l : Listed) → row-line (rowBy w m (line + 2) l) ≤ line + 2
+    by-lits w m (Listed.Literals l next) = omega arith
+    by-lits w m Listed.Broken = omega arith
+
+    by-mark : (w : ℕ) (p : Parsed) → row-line (from-mark w p) ≤ line + 2
+    by-mark w (Parsed.Number m next) = by-lits w m (litsLine s next)
+    by-mark w Parsed.Broken = omega arith
+
+    by-weight : (p : Parsed) → row-line (onNumber p (RowRead.Broken line) (λ w next. from-mark w (markLine s next))) ≤ line + 2
+    by-weight (Parsed.Number value next) = by-mark value (markLine s next)
     by-weight Parsed.Broken = omega arith
 
 rows-within : (m : ℕ) (s : List ℕ) (at line : ℕ) → brokenLine (rowsAt m s at line) ≤ line + rowLines * m
@@ -231,7 +238,7 @@ rows-within (suc m) s at line = by-row (rowAt s at line) (row-within s at line) 
     by-rest words (rows more next) e = omega arith
     by-rest words (brokenAt l) e = omega (arith, e)
 
-    by-row : (r : RowRead) → row-line r ≤ line + 1
+    by-row : (r : RowRead) → row-line r ≤ line + 2
         → ((next : ℕ) → brokenLine (rowsAt m s next (line + rowLines)) ≤ line + rowLines + rowLines * m)
         → brokenLine (onRow r (λ row next. inFront (rowWordsOf row) (rowsAt m s next (line + rowLines)))) ≤ line + rowLines * suc m
     by-row (RowRead.Lines row next) e more = by-rest (rowWordsOf row) (rowsAt m s next (line + rowLines)) (more next)

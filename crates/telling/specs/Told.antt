@@ -2,6 +2,7 @@
 -- and are else as found.
 use Prim.Native.Nat.{ℕ, _+_, _-_, _*_, _^_, min}
 use mathlib.Core.List.{List, [], _∷_}
+use mathlib.Core.Bool.{Bool, cond}
 use Rattle.rules.specs.declared.Judged.{Judged}
 use Rattle.rules.specs.declared.Judged.the-variants.{Fine, Refused}
 use Rattle.rules.specs.declared.Status.{Status}
@@ -30,11 +31,15 @@ toldNear Fine = 0
 toldNear (Refused r) = numberOf r + 256 * min (placeOf r) mostPlace
 
 abbrev pub byWeighed : Weighed → Judged
-byWeighed (Weighed.Weight w) = Fine
+byWeighed (Weighed.Weight w hold) = Fine
 byWeighed (Weighed.Refused r) = Refused r
 
-abbrev pub weightOut : Weighed → ℕ → ℕ
-weightOut (Weighed.Weight w) found = w
+-- whether every hard row holds, as a word
+abbrev pub holdWord : Bool → ℕ
+holdWord hold = cond hold 1 0
+
+abbrev pub weightOut : Weighed → List ℕ → List ℕ
+weightOut (Weighed.Weight w hold) found = w ∷ holdWord hold ∷ []
 weightOut (Weighed.Refused r) found = found
 
 abbrev pub byBounded : Bounded → Judged
@@ -48,6 +53,7 @@ boundOut (Bounded.Refused r) found = found
 abbrev pub statusWord : Status → ℕ
 statusWord Status.Done = 0
 statusWord Status.Stopped = 1
+statusWord Status.Impossible = 2
 
 -- how many readings are kept, then weight and reading
 abbrev pub bestWords : Best → List ℕ → List ℕ

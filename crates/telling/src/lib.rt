@@ -1,6 +1,7 @@
-// How a caller in C is told what a call came to: a judgement as one number, and what a search found as five words.
+// How a caller in C is told what a call came to: a judgement as one number, what a search found as five words, what a reading weighs as two.
 ghost use mathlib.Core.Path.{_≡_};
-ghost use Rattle.telling.specs.Told.{toldNear, statusWord, foundWords};
+ghost use mathlib.Core.List.{[], _∷_};
+ghost use Rattle.telling.specs.Told.{toldNear, statusWord, foundWords, holdWord};
 use rules::Best;
 use rules::Found;
 use rules::Judged;
@@ -8,6 +9,14 @@ use rules::Status;
 use values::numbered;
 
 pub mod inner;
+
+// The weight of a reading, and 1 where every hard row holds.
+pub fn weighed_words(weight: u64, hold: bool) -> [u64; 2]
+    ensures { λ r. ⌜ r ≡ weight ∷ holdWord hold ∷ [] ⌝ }
+{
+    let holds = if hold { 1 } else { 0 };
+    [weight, holds]
+}
 
 // Status, how many readings are kept, weight, reading, nodes.
 pub fn found_words(f: Found) -> [u64; 5]
@@ -48,5 +57,6 @@ fn status_word(s: Status) -> u64
     match s {
         Status::Done => 0,
         Status::Stopped => 1,
+        Status::Impossible => 2,
     }
 }

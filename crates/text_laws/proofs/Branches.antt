@@ -6,7 +6,7 @@ use mathlib.Core.Logic.{_⊎_, ⊎-elim}
 use mathlib.Core.Bool.{Bool, true, false, cond, not, _&&_, _||_}
 use mathlib.Core.List.{List, [], _++_}
 use native.Mathlib.Omega.{arith}
-use borrow.Author.Tests.{eq-eqb, ne-eqb, ltb-true, leb-true}
+use borrow.Author.Tests.{eq-eqb, ne-eqb, ltb-true, leb-true, le-leb, lt-leb}
 use lib.Dec.{eqb, leb, ltb}
 use lib.ListN.{length, getD}
 use lib.Seq.{sets}
@@ -25,9 +25,9 @@ use Rattle.rules.specs.declared.Judged.the-variants.{Fine}
 use Rattle.rules.specs.Text.{bytes, lineFeed, space, minus, digitZero, mostDigits}
 use Rattle.rules.specs.Reader.{firstRowLine, rowLines}
 use Rattle.rules.specs.Reader.{stands, digitRun, valueOf, numberAt, numberLine, literalOf, literalAt, withLiteral, onLiteral, litsFrom, litsLine}
-use Rattle.rules.specs.Reader.{onNumber, rowBy, rowAt, RowsRead, rows, brokenAt, inFront, rowsAt, headAt, restWhy, wordsOf}
-use Rattle.rules.specs.Table.{rowWordsOf, rowWords}
-use Rattle.text_laws.specs.Keys.{varsKey, budgetKey, rowsKey, weightKey, litsKey}
+use Rattle.rules.specs.Reader.{onNumber, rowBy, markLine, rowAt, RowsRead, rows, brokenAt, inFront, rowsAt, headAt, restWhy, wordsOf}
+use Rattle.rules.specs.Table.{rowWordsOf, rowWords, hardMark, markedRow}
+use Rattle.text_laws.specs.Keys.{varsKey, budgetKey, rowsKey, weightKey, hardKey, litsKey}
 use Rattle.text_laws.specs.Ends.{unbroken}
 use Rattle.text_laws.proofs.RowWords.{row-words}
 
@@ -186,6 +186,21 @@ pub line-no-lits : (s : List ℕ) (at : ℕ) → stands s at litsKey ≡ false �
 unfolding litsLine bytes
 line-no-lits s at e = rw e
 
+-- ---- a line of a mark
+
+module _ (s : List ℕ) (at : ℕ) where
+  pub mark-no-line : numberLine s at hardKey ≡ Parsed.Broken → markLine s at ≡ Parsed.Broken
+  unfolding markLine bytes
+  mark-no-line e = rw e
+
+  pub mark-over : (m next : ℕ) → numberLine s at hardKey ≡ Parsed.Number m next → hardMark < m → markLine s at ≡ Parsed.Broken
+  unfolding markLine bytes
+  mark-over m next e h = rw (e, lt-leb m hardMark h)
+
+  pub mark-is : (m next : ℕ) → numberLine s at hardKey ≡ Parsed.Number m next → m ≤ hardMark → markLine s at ≡ Parsed.Number m next
+  unfolding markLine bytes
+  mark-is m next e h = rw (e, le-leb m hardMark h)
+
 -- ---- a row
 
 module _ (s : List ℕ) (at line : ℕ) where
@@ -193,25 +208,38 @@ module _ (s : List ℕ) (at line : ℕ) where
   unfolding rowAt bytes
   row-no-weight e = rw e
 
-  pub row-no-lits : (w next : ℕ) → numberLine s at weightKey ≡ Parsed.Number w next → litsLine s next ≡ Listed.Broken
+  pub row-no-mark : (w next : ℕ) → numberLine s at weightKey ≡ Parsed.Number w next → markLine s next ≡ Parsed.Broken
       → rowAt s at line ≡ RowRead.Broken (line + 1)
   unfolding rowAt bytes
-  row-no-lits w next e h = rw (e, h)
+  row-no-mark w next e h = rw (e, h)
 
-  pub row-is : (w next : ℕ) (l : Lits) (end : ℕ) → numberLine s at weightKey ≡ Parsed.Number w next → litsLine s next ≡ Listed.Literals l end
-      → rowAt s at line ≡ RowRead.Lines (record { lits = l; weight = w }) end
-  unfolding rowAt bytes
-  row-is w next l end e h = rw (e, h)
+  module _ (w next m past : ℕ) (e : numberLine s at weightKey ≡ Parsed.Number w next) (f : markLine s next ≡ Parsed.Number m past) where
+    pub row-no-lits : litsLine s past ≡ Listed.Broken → rowAt s at line ≡ RowRead.Broken (line + 2)
+    unfolding rowAt bytes
+    row-no-lits h = rw (e, f, h)
+
+    pub row-is : (l : Lits) (end : ℕ) → litsLine s past ≡ Listed.Literals l end → rowAt s at line ≡ RowRead.Lines (markedRow l w m) end
+    unfolding rowAt bytes
+    row-is l end h = rw (e, f, h)
 
 -- the lines of a row that is read have no part in what is read
-same-lits : (a b w : ℕ) (row : Row) (next : ℕ) (l : Listed) → rowBy w (a + 1) l ≡ RowRead.Lines row next → rowBy w (b + 1) l ≡ RowRead.Lines row next
-same-lits a b w row next (Listed.Literals l end) e = e
-same-lits a b w row next Listed.Broken e = impossible (cc)
+same-lits : (a b w m : ℕ) (row : Row) (next : ℕ) (l : Listed) → rowBy w m a l ≡ RowRead.Lines row next → rowBy w m b l ≡ RowRead.Lines row next
+same-lits a b w m row next (Listed.Literals l end) e = e
+same-lits a b w m row next Listed.Broken e = impossible (cc)
+
+same-mark : (s : List ℕ) (a b w : ℕ) (row : Row) (next : ℕ) (n : Parsed)
+    → onNumber n (RowRead.Broken (a + 1)) (λ m past. rowBy w m (a + 2) (litsLine s past)) ≡ RowRead.Lines row next
+    → onNumber n (RowRead.Broken (b + 1)) (λ m past. rowBy w m (b + 2) (litsLine s past)) ≡ RowRead.Lines row next
+same-mark s a b w row next (Parsed.Number m past) e = same-lits (a + 2) (b + 2) w m row next (litsLine s past) e
+same-mark s a b w row next Parsed.Broken e = impossible (cc)
+
+abbrev markedFrom : List ℕ → ℕ → ℕ → ℕ → RowRead
+markedFrom s a w past = onNumber (markLine s past) (RowRead.Broken (a + 1)) (λ m past. rowBy w m (a + 2) (litsLine s past))
 
 same-number : (s : List ℕ) (a b : ℕ) (row : Row) (next : ℕ) (n : Parsed)
-    → onNumber n (RowRead.Broken a) (λ w m. rowBy w (a + 1) (litsLine s m)) ≡ RowRead.Lines row next
-    → onNumber n (RowRead.Broken b) (λ w m. rowBy w (b + 1) (litsLine s m)) ≡ RowRead.Lines row next
-same-number s a b row next (Parsed.Number w m) e = same-lits a b w row next (litsLine s m) e
+    → onNumber n (RowRead.Broken a) (markedFrom s a) ≡ RowRead.Lines row next
+    → onNumber n (RowRead.Broken b) (markedFrom s b) ≡ RowRead.Lines row next
+same-number s a b row next (Parsed.Number w past) e = same-mark s a b w row next (markLine s past) e
 same-number s a b row next Parsed.Broken e = impossible (cc)
 
 pub row-line : (s : List ℕ) (at a b : ℕ) (row : Row) (next : ℕ) → rowAt s at a ≡ RowRead.Lines row next → rowAt s at b ≡ RowRead.Lines row next

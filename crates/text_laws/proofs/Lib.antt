@@ -9,6 +9,7 @@ pub mod RowWords
 pub mod Reading
 pub mod Writing
 pub mod Lines
+pub mod Marks
 pub mod Lists
 pub mod ListsFound
 pub mod Rows

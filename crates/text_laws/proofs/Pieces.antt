@@ -18,7 +18,7 @@ use Rattle.literals.specs.Literal.{mostVariables}
 use Rattle.rules.specs.declared.Row.{Row}
 use Rattle.rules.specs.Table.{rowCount, rowOf}
 use Rattle.rules.specs.Text.{bytes, numberText, line, behind, litsText, rowText, rowsText, tableText, lineFeed, space, minus, mostDigits}
-use Rattle.text_laws.specs.Keys.{varsKey, budgetKey, rowsKey, weightKey, litsKey}
+use Rattle.text_laws.specs.Keys.{varsKey, budgetKey, rowsKey, weightKey, hardKey, litsKey}
 use Rattle.text_laws.specs.Pieces.{lineText, listLine, listText, headLines, parting, literalPiece}
 use Rattle.text_laws.specs.Lengths.{mostNumberEnd, mostLiteral, mostLits, mostLitsEnd, mostHead, mostRow}
 use Rattle.text_laws.proofs.Numbers.{digits-length}
@@ -126,14 +126,17 @@ table-lines n b table =
     (append-assoc (lineText varsKey n) (lineText budgetKey b ++ lineText rowsKey m) (rowsText table m)
     ∙ rw (append-assoc (lineText budgetKey b) (lineText rowsKey m) (rowsText table m)))
 
-pub row-text : (row : Row) → rowText row ≡ lineText weightKey (row .weight) ++ listText (row .lits)
+pub row-text : (row : Row) → rowText row ≡ lineText weightKey (row .weight) ++ (lineText hardKey (row .mark) ++ listText (row .lits))
 unfolding rowText line bytes lineText
 row-text row = refl
 
 pub row-length : (row : Row) → length (rowText row) ≤ mostRow
 row-length row =
-    rw (row-text row, length-append (lineText weightKey (row .weight)) (listText (row .lits)))
-    (omega (arith, line-length weightKey (row .weight), list-length litsKey mostVariables (row .lits)))
+    let one = lineText weightKey (row .weight) in
+    let two = lineText hardKey (row .mark) in
+    let three = listText (row .lits) in
+    rw (row-text row, length-append one (two ++ three), length-append two three)
+    (omega (arith, line-length weightKey (row .weight), line-length hardKey (row .mark), list-length litsKey mostVariables (row .lits)))
 
 pub rows-none : (table : List ℕ) → rowsText table 0 ≡ []
 unfolding rowsText

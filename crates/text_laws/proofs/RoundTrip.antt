@@ -1,5 +1,5 @@
 -- The round trip: what the writer writes of a table that the form holds, as of each admissible one, is read back as that table. The text stands at its
--- own start, so each line is read as it was written, the three of the head and the two of each row, and the last row ends where the text does.
+-- own start, so each line is read as it was written, the three of the head and the three of each row, and the last row ends where the text does.
 use Prim.Native.Nat.{ℕ, _+_, _*_, _≤_}
 use mathlib.Core.Path.{_≡_, refl, sym, ap, _∙_}
 use mathlib.Core.Bool.{true}
@@ -36,6 +36,7 @@ fine-held n row h f =
       negative = lt-of-lt-of-le (below-lt (row .lits .negative) n (f .negative)) (pow-mono h);
       apart = f .apart;
       light = omega (arith, f .light);
+      mark = f .mark;
     }
 
 pub record ReadBack (most : ℕ) (text : List ℕ) (room n b : ℕ) (table : List ℕ) : Type 0 where

@@ -20,10 +20,11 @@ row-front row more = refl
 pub row-past : (row : Row) (more : List ℕ) (at : ℕ) → rowIn (rowWordsOf row ++ more) (rowWords + at) ≡ rowIn more at
 unfolding rowIn rowWordsOf
 row-past row more at =
-    let here : rowWords + at ≡ suc (suc (suc at)) = omega arith in
-    let one : suc (suc (suc at)) + 1 ≡ suc (suc (suc (at + 1))) = omega arith in
-    let two : suc (suc (suc at)) + 2 ≡ suc (suc (suc (at + 2))) = omega arith in
-    rw (here, one, two)
+    let here : rowWords + at ≡ suc (suc (suc (suc at))) = omega arith in
+    let one : suc (suc (suc (suc at))) + 1 ≡ suc (suc (suc (suc (at + 1)))) = omega arith in
+    let two : suc (suc (suc (suc at))) + 2 ≡ suc (suc (suc (suc (at + 2)))) = omega arith in
+    let three : suc (suc (suc (suc at))) + 3 ≡ suc (suc (suc (suc (at + 3)))) = omega arith in
+    rw (here, one, two, three)
 
 -- the words from a place on are those of the row that begins there, and then the rest
 pub row-drop : (words : List ℕ) (at : ℕ) → at + rowWords ≤ length words → drop at words ≡ rowWordsOf (rowIn words at) ++ drop (at + rowWords) words
@@ -31,5 +32,7 @@ unfolding rowIn rowWordsOf
 row-drop words at h =
     let one : at + 1 ≡ suc at = omega arith in
     let two : at + 2 ≡ suc (suc at) = omega arith in
-    let end : at + rowWords ≡ suc (suc (suc at)) = omega arith in
-    rw (one, two, end, drop-cons words at 0 (omega arith), drop-cons words (suc at) 0 (omega arith), drop-cons words (suc (suc at)) 0 (omega arith))
+    let three : at + 3 ≡ suc (suc (suc at)) = omega arith in
+    let end : at + rowWords ≡ suc (suc (suc (suc at))) = omega arith in
+    rw (one, two, three, end, drop-cons words at 0 (omega arith), drop-cons words (suc at) 0 (omega arith))
+    (rw (drop-cons words (suc (suc at)) 0 (omega arith), drop-cons words (suc (suc (suc at))) 0 (omega arith)))

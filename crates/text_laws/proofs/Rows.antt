@@ -1,4 +1,4 @@
--- Rows. A row is two lines; the rows of a table, one behind the other, are read as its words, and words that are read are those of rows
+-- Rows. A row is three lines; the rows of a table, one behind the other, are read as its words, and words that are read are those of rows
 -- that stand there, one behind the other.
 use Prim.Native.Nat.{ℕ, zero, suc, _+_, _*_, _^_, _<_, _≤_}
 use mathlib.Core.Path.{_≡_, refl, sym, ap, subst, _∙_}
@@ -16,18 +16,19 @@ use Rattle.rules.specs.declared.Row.{Row}
 use Rattle.rules.specs.declared.Parsed.{Parsed}
 use Rattle.rules.specs.declared.Listed.{Listed}
 use Rattle.rules.specs.declared.RowRead.{RowRead}
-use Rattle.rules.specs.Table.{rowOf, rowWordsOf, rowWords}
+use Rattle.rules.specs.Table.{rowOf, rowWordsOf, rowWords, markedRow}
 use Rattle.rules.specs.Text.{litsText, rowText, rowsText, lineFeed}
 use Rattle.rules.specs.Reader.{rowLines}
-use Rattle.rules.specs.Reader.{stands, numberLine, litsLine, rowAt, RowsRead, rows, brokenAt, inFront, rowsAt}
+use Rattle.rules.specs.Reader.{stands, numberLine, markLine, litsLine, rowAt, RowsRead, rows, brokenAt, inFront, rowsAt}
 use Rattle.text_laws.specs.Pieces.{lineText, listText}
-use Rattle.text_laws.specs.Keys.{weightKey, litsKey}
+use Rattle.text_laws.specs.Keys.{weightKey, hardKey, litsKey}
 use Rattle.text_laws.specs.Lines.{RowHeld}
 use Rattle.text_laws.proofs.Pieces.{row-text}
 use Rattle.text_laws.proofs.RowWords.{row-words, row-front, row-past, row-drop}
 use Rattle.text_laws.proofs.Stands.{stands-none, first-stands, second-stands, both-stand}
-use Rattle.text_laws.proofs.Branches.{line-of-lits, line-no-lits, row-no-weight, row-no-lits, row-is, rows-next}
+use Rattle.text_laws.proofs.Branches.{line-of-lits, line-no-lits, row-no-weight, row-no-mark, row-no-lits, row-is, rows-next}
 use Rattle.text_laws.proofs.Lines.{line-reads, line-found}
+use Rattle.text_laws.proofs.Marks.{mark-reads, mark-found}
 use Rattle.text_laws.proofs.Lists.{lits-read}
 use Rattle.text_laws.proofs.ListsFound.{lits-spelt}
 
@@ -72,43 +73,76 @@ pub row-reads : (s : List ℕ) (at ln : ℕ) (row : Row) → RowHeld row → sta
     → rowAt s at ln ≡ RowRead.Lines row (at + length (rowText row))
 row-reads s at ln row w e =
     let one = lineText weightKey (row .weight) in
-    let two = listText (row .lits) in
-    let e2 : stands s at (one ++ two) ≡ true = rw (row-text row) at e in
-    let weight = line-reads s at weightKey (row .weight) (w .light) (first-stands s at one two e2) in
-    let lits = list-reads s (at + length one) (row .lits) (w .positive) (w .negative) (w .apart) (second-stands s at one two e2) in
-    row-is s at ln (row .weight) (at + length one) (row .lits) (at + length one + length two) weight lits
-    ∙ ap (RowRead.Lines row) (let z : at + length one + length two ≡ at + length (rowText row) = rw (row-text row, length-append one two) (omega arith) in z)
+    let two = lineText hardKey (row .mark) in
+    let three = listText (row .lits) in
+    let e1 : stands s at (one ++ (two ++ three)) ≡ true = rw (row-text row) at e in
+    let e2 = second-stands s at one (two ++ three) e1 in
+    let weight = line-reads s at weightKey (row .weight) (w .light) (first-stands s at one (two ++ three) e1) in
+    let mid = at + length one in
+    let mark = mark-reads s mid (row .mark) (w .mark) (first-stands s mid two three e2) in
+    let past = mid + length two in
+    let lits = list-reads s past (row .lits) (w .positive) (w .negative) (w .apart) (second-stands s mid two three e2) in
+    let end : past + length three ≡ at + length (rowText row) = rw (row-text row, length-append one (two ++ three), length-append two three) (omega arith) in
+    row-is s at ln (row .weight) mid (row .mark) past weight mark (row .lits) (past + length three) lits ∙ ap (RowRead.Lines row) end
 
 -- a row that is read: it stands there, and the form holds it
 abbrev Standing : List ℕ → ℕ → Row → ℕ → Type 0
 Standing s at row next = (stands s at (rowText row) ≡ true) × (next ≡ at + length (rowText row)) × RowHeld row
 
+pub row-held : (s : List ℕ) (at w mid m past : ℕ) (l : Lits) (end : ℕ) → numberLine s at weightKey ≡ Parsed.Number w mid → markLine s mid ≡ Parsed.Number m past
+    → litsLine s past ≡ Listed.Literals l end → RowHeld (markedRow l w m)
+row-held s at w mid m past l end p o q =
+    let found = list-found s past l end q in
+    record {
+      positive = found .positive;
+      negative = found .negative;
+      apart = found .both;
+      light = line-found s at weightKey w mid p .small;
+      mark = mark-found s mid m past o .small;
+    }
+
+row-stands : (s : List ℕ) (at w mid m past : ℕ) (l : Lits) (end : ℕ) → numberLine s at weightKey ≡ Parsed.Number w mid → markLine s mid ≡ Parsed.Number m past
+    → litsLine s past ≡ Listed.Literals l end → Standing s at (markedRow l w m) end
+row-stands s at w mid m past l end p o q =
+    let f = line-found s at weightKey w mid p in
+    let g = line-found s mid hardKey m past (mark-found s mid m past o .line) in
+    let h = list-found s past l end q in
+    let one = lineText weightKey w in
+    let two = lineText hardKey m in
+    let three : stands s (mid + length two) (listText l) ≡ true = rw (← g .end) (h .stand) in
+    let rest : stands s (at + length one) (two ++ listText l) ≡ true = rw (← f .end) (both-stand s mid two (listText l) (g .stand) three) in
+    rw (row-text (markedRow l w m)) (
+      both-stand s at one (two ++ listText l) (f .stand) rest,
+      h .end ∙ rw (g .end, f .end, length-append one (two ++ listText l), length-append two (listText l)) (omega arith),
+      row-held s at w mid m past l end p o q,
+    )
+
 pub row-found : (s : List ℕ) (at ln : ℕ) (row : Row) (next : ℕ) → rowAt s at ln ≡ RowRead.Lines row next → Standing s at row next
 row-found s at ln row next e = weighed (numberLine s at weightKey) refl
   where
-    listed : (w m : ℕ) → numberLine s at weightKey ≡ Parsed.Number w m → (r : Listed) → litsLine s m ≡ r → Standing s at row next
-    listed w m p Listed.Broken q =
-        let b = row-no-lits s at ln w m p q in
+    listed : (w mid m past : ℕ) → numberLine s at weightKey ≡ Parsed.Number w mid → markLine s mid ≡ Parsed.Number m past
+        → (r : Listed) → litsLine s past ≡ r → Standing s at row next
+    listed w mid m past p o Listed.Broken q =
+        let b = row-no-lits s at ln w mid m past p o q in
         impossible (cc)
-    listed w m p (Listed.Literals l end) q =
-        let b = row-is s at ln w m l end p q in
-        let wl : _≡_ {A = Row} (record { lits = l; weight = w }) row = cc in
+    listed w mid m past p o (Listed.Literals l end) q =
+        let b = row-is s at ln w mid m past p o l end q in
+        let wl : markedRow l w m ≡ row = cc in
         let en : end ≡ next = cc in
-        let f = line-found s at weightKey w m p in
-        let g = list-found s m l end q in
-        let one = lineText weightKey w in
-        let two : stands s (at + length one) (listText l) ≡ true = rw (← f .end) (g .stand) in
-        let held : RowHeld (record { lits = l; weight = w }) =
-        record { positive = g .positive; negative = g .negative; apart = g .both; light = f .small } in
-        rw (← wl, ← en)
-        (rw (row-text (record { lits = l; weight = w }))
-        (both-stand s at one (listText l) (f .stand) two, g .end ∙ rw (f .end, length-append one (listText l)) (omega arith), held))
+        let found = row-stands s at w mid m past l end p o q in
+        rw (← wl, ← en) found
+
+    marked : (w mid : ℕ) → numberLine s at weightKey ≡ Parsed.Number w mid → (r : Parsed) → markLine s mid ≡ r → Standing s at row next
+    marked w mid p Parsed.Broken q =
+        let b = row-no-mark s at ln w mid p q in
+        impossible (cc)
+    marked w mid p (Parsed.Number m past) q = listed w mid m past p q (litsLine s past) refl
 
     weighed : (r : Parsed) → numberLine s at weightKey ≡ r → Standing s at row next
     weighed Parsed.Broken p =
         let b = row-no-weight s at ln p in
         impossible (cc)
-    weighed (Parsed.Number w m) p = listed w m p (litsLine s m) refl
+    weighed (Parsed.Number w mid) p = marked w mid p (markLine s mid) refl
 
 -- ---- the rows of a table from row i on
 

@@ -17,5 +17,8 @@ rowsKey = 114 ∷ 111 ∷ 119 ∷ 115 ∷ 61 ∷ []
 abbrev pub weightKey : List ℕ
 weightKey = 119 ∷ 101 ∷ 105 ∷ 103 ∷ 104 ∷ 116 ∷ 61 ∷ []
 
+abbrev pub hardKey : List ℕ
+hardKey = 104 ∷ 97 ∷ 114 ∷ 100 ∷ 61 ∷ []
+
 abbrev pub litsKey : List ℕ
 litsKey = 108 ∷ 105 ∷ 116 ∷ 115 ∷ 61 ∷ []

@@ -3,7 +3,7 @@ use Prim.Native.Nat.{ℕ, _+_, _*_}
 use lib.ListN.{length}
 use Rattle.literals.specs.Literal.{mostVariables}
 use Rattle.rules.specs.Text.{mostDigits}
-use Rattle.text_laws.specs.Keys.{varsKey, budgetKey, rowsKey, weightKey, litsKey}
+use Rattle.text_laws.specs.Keys.{varsKey, budgetKey, rowsKey, weightKey, hardKey, litsKey}
 
 -- a number and the end of its line
 abbrev pub mostNumberEnd : ℕ
@@ -26,4 +26,4 @@ mostHead = (length varsKey + mostNumberEnd) + ((length budgetKey + mostNumberEnd
 
 -- a row's lines
 abbrev pub mostRow : ℕ
-mostRow = (length weightKey + mostNumberEnd) + (length litsKey + mostLitsEnd mostVariables)
+mostRow = (length weightKey + mostNumberEnd) + ((length hardKey + mostNumberEnd) + (length litsKey + mostLitsEnd mostVariables))

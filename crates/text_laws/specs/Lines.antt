@@ -1,6 +1,6 @@
 -- Document 01, "The text", by its lines. The form is the set of texts that are written (`tableText`), of whatever the form can hold; a line breaks it
 -- where no such text has the same lines up to it. Nothing here knows the reader: that it finds this line is a law of this crate.
-use Prim.Native.Nat.{ℕ, zero, suc, _*_, _^_, _<_}
+use Prim.Native.Nat.{ℕ, zero, suc, _*_, _^_, _<_, _≤_}
 use mathlib.Core.Path.{_≡_}
 use mathlib.Core.List.{List, [], _∷_}
 use mathlib.Core.Bool.{false, cond}
@@ -9,7 +9,7 @@ use lib.Dec.{eqb}
 use lib.Bits.{bitAnd}
 use Rattle.literals.specs.Literal.{mostVariables}
 use Rattle.rules.specs.declared.Row.{Row}
-use Rattle.rules.specs.Table.{rowWords, rowCount, rowOf}
+use Rattle.rules.specs.Table.{rowWords, hardMark, rowCount, rowOf}
 use Rattle.rules.specs.Text.{lineFeed, mostDigits, tableText}
 
 -- ---- lines
@@ -51,12 +51,13 @@ NoFeed (b ∷ s) = (eqb b lineFeed ≡ false) × NoFeed s
 
 -- ---- the form
 
--- "variables strictly rising from 1 to 64", so that none stands both ways; "1 to 10 digits"
+-- "variables strictly rising from 1 to 64", so that none stands both ways; "1 to 10 digits"; "`hard=`, 0 or 1"
 pub record RowHeld (row : Row) : Type 0 where
   pub positive : row .lits .positive < 2 ^ mostVariables
   pub negative : row .lits .negative < 2 ^ mostVariables
   pub apart : bitAnd (row .lits .positive) (row .lits .negative) ≡ 0
   pub light : row .weight < 10 ^ mostDigits
+  pub mark : row .mark ≤ hardMark
 
 -- what the form can hold, whether it is admissible or not
 pub record Held (variables budget : ℕ) (table : List ℕ) : Type 0 where

@@ -21,6 +21,7 @@ use Rattle.rules.specs.declared.Row.{Row}
 use Rattle.rules.specs.declared.Part.{Part}
 use Rattle.rules.specs.Desk.{satisfied, remnant}
 use Rattle.rules.specs.Bound.{weightWhere}
+use Rattle.desk_laws.specs.Charged.{chargedRow}
 use Rattle.desk_laws.proofs.Readings.{one-alone}
 use Rattle.units.specs.Adds.{sumWords, unitAt, placeOf, weightUnder, placeAdds, rowAdds, Roomy, Grown}
 use Rattle.units.proofs.Ways.{someOf, twiceOf, some-left, positive-left, negative-left, untrue-test}
@@ -79,7 +80,7 @@ module _ (a b : ℕ) where
       let none : count (bitAnd a b) ≡ 0 = omega (arith, count-or-and a b) in
       (omega (arith, count-or-and a b), count-empty (and-lt-left 64 b ha) none)
 
--- ---- what a row adds, by what is left of it
+-- ---- what a row adds, by what is left of it. Nothing but its literals is asked, and a charge leaves those.
 
 -- the variables that are left of a row one way, and how many ones are counted there
 pub record Left (p : Part) (row : Row) (some ones : ℕ) : Type 0 where
@@ -87,6 +88,9 @@ pub record Left (p : Part) (row : Row) (some ones : ℕ) : Type 0 where
   pub held : Held (row .lits)
   pub within : some < 2 ^ 64
   pub counted : ones ≡ count some
+
+pub left-charged : {p : Part} {row : Row} {some ones : ℕ} (charge : ℕ) → Left p row some ones → Left p (chargedRow charge row) some ones
+left-charged charge left = record { is = left .is; held = left .held; within = left .within; counted = left .counted }
 
 module _ {p : Part} {row : Row} {some ones : ℕ} (left : Left p row some ones) where
   abbrev up : ℕ
@@ -166,7 +170,7 @@ module _ {p : Part} {row : Row} {some ones : ℕ} (left : Left p row some ones) 
       let m = empty-masks rest t in
       left .is ∙ or-empty (someOf up down (p .decided)) twice (some-left up down (p .decided) ∙ rw (m .0, m .1) (or-zero-l 0)) .0
 
-  none-lost : (ones ≡ 0 → ⊥) → weightWhere isEmpty p row ≡ 0
+  pub none-lost : (ones ≡ 0 → ⊥) → weightWhere isEmpty p row ≡ 0
   none-lost any =
       let e : isEmpty rest ≡ false = not-so (λ t. any (omega (arith, left .counted, ap count (empty-some t), count-zero))) in
       where-left isEmpty (λ t. absurd (clash t e)) ∙ rw e
@@ -180,8 +184,8 @@ module _ {p : Part} {row : Row} {some ones : ℕ} (left : Left p row some ones) 
       other (left .counted ∙ ap count (all-left (o .1)) ∙ o .0)) in
       none-grown (rowAdds p row) sums (λ k h. where-unit k h ∙ no-unit rest (weightBut p row twice) e k h)
 
-  pub more-adds : (lost : ℕ) (sums : List ℕ) → 1 < ones → (lost ≡ lost + weightWhere isEmpty p row) × Grown (rowAdds p row) sums sums
-  more-adds lost sums more = (omega (arith, none-lost (λ z. omega arith)), none-gathered sums (λ z. omega arith))
+  pub more-gather : (sums : List ℕ) → 1 < ones → Grown (rowAdds p row) sums sums
+  more-gather sums more = none-gathered sums (λ z. omega arith)
 
   -- nothing is left one way: nothing at all, or a variable both ways
   all-lost : some ≡ 0 → cond (isEmpty rest) (weightBut p row twice) 0 ≡ weightBut p row twice
@@ -191,13 +195,14 @@ module _ {p : Part} {row : Row} {some ones : ℕ} (left : Left p row some ones) 
       (λ t. rw (no-weight t) (cond-same (isEmpty rest) 0))
       (cases (eqb twice 0))
 
-  pub empty-adds : (w : ℕ) → w ≡ weightUnder p row 0 → (lost : ℕ) (sums : List ℕ) → some ≡ 0
-      → (lost + w ≡ lost + weightWhere isEmpty p row) × Grown (rowAdds p row) sums sums
-  empty-adds w weigh lost sums none =
+  pub empty-gather : (sums : List ℕ) → some ≡ 0 → Grown (rowAdds p row) sums sums
+  empty-gather sums none = none-gathered sums (λ e. omega (arith, left .counted, ap count none, count-zero))
+
+  pub empty-lost : (w : ℕ) → w ≡ weightUnder p row 0 → some ≡ 0 → w ≡ weightWhere isEmpty p row
+  empty-lost w weigh none =
       let no-negative : negative ≡ 0 = rw none (and-zero-l down) in
       let apart : isEmpty rest ≡ true → twice ≡ 0 = λ t. rw (empty-masks rest t .0) (and-zero-l (rest .negative)) in
-      let is = weigh ∙ ap (weightUnder p row) (sym no-negative) ∙ weighs ∙ sym (where-left isEmpty apart ∙ all-lost none) in
-      (ap (λ (x : ℕ). lost + x) is, none-gathered sums (λ e. omega (arith, left .counted, ap count none, count-zero)))
+      weigh ∙ ap (weightUnder p row) (sym no-negative) ∙ weighs ∙ sym (where-left isEmpty apart ∙ all-lost none)
 
   pub one-of : (some ≡ 0 → ⊥) → ones ≤ 1 → ones ≡ 1
   one-of any most = omega (arith, left .counted, count-pos (left .within) (pos-of-ne-zero any))
@@ -231,7 +236,5 @@ module _ {p : Part} {row : Row} {some ones : ℕ} (left : Left p row some ones) 
         rw none (cond-same (eqb k (placeOf lone)) 0) ∙ sym (where-unit k h ∙ no-unit rest (weightBut p row twice) two k h))
         (cases (eqb twice 0))
 
-    pub one-adds : (lost : ℕ) (before after : List ℕ) → ones ≡ 1 → Grown (placeAdds (placeOf lone) w) before after
-        → (lost ≡ lost + weightWhere isEmpty p row) × Grown (rowAdds p row) before after
-    one-adds lost before after one grown =
-        (omega (arith, none-lost (λ z. omega arith)), grown-as (placeAdds (placeOf lone) w) (rowAdds p row) before after (there one) grown)
+    pub one-gathers : (before after : List ℕ) → ones ≡ 1 → Grown (placeAdds (placeOf lone) w) before after → Grown (rowAdds p row) before after
+    one-gathers before after one grown = grown-as (placeAdds (placeOf lone) w) (rowAdds p row) before after (there one) grown

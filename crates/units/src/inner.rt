@@ -4,11 +4,14 @@ ghost use mathlib.Core.Path.{_≡_};
 ghost use Prim.Native.Nat.{_+_, _^_, _<_};
 ghost use Rattle.literals.specs.Lits.{isEmpty};
 ghost use Rattle.rules.specs.Bound.{weightWhere};
+ghost use Rattle.desk_laws.specs.Charged.{chargedRow};
 ghost use Rattle.units.specs.Adds.{sumWords, placeOf, weightUnder, placeAdds, rowAdds, Roomy, Grown};
 use literals::Literal;
 use literals::Lits;
 use rules::Part;
 use rules::Row;
+use values::charge_on;
+use values::with_weight;
 
 // Where the sums of negative literals begin, behind those of the positive ones.
 pub const NEGATIVE: usize = Literal::MOST as usize;
@@ -49,18 +52,20 @@ fn add_unit(rest: Lits, w: u64, sums: &mut [u64])
 // What a row adds to the sums, and as the result what is then lost. How much is left of it changes with the depth of a walk alone, and
 // is asked first; whether it is satisfied changes from node to node, and only chooses between its weight and 0. Whether there are ones at
 // all is seen without counting them. What is left is asked of the variables that the row has one way, which are all of them in a table's row;
-// where another has a variable both ways, it is satisfied or neither lost nor a unit, and has no weight.
-pub fn add_row(p: Part, row: Row, lost: u64, sums: &mut [u64]) -> u64
-    requires { ⌜ lost + row .weight < 2 ^ 64 ⌝ }
+// where another has a variable both ways, it is satisfied or neither lost nor a unit, and has no weight. A charge joins what is lost where the row
+// is hard, and no sum.
+pub fn add_row(p: Part, row: Row, charge: u64, lost: u64, sums: &mut [u64]) -> u64
+    requires { ⌜ lost + chargedRow charge row .weight < 2 ^ 64 ⌝ }
     requires { ⌜ Roomy (row .weight) (now sums) ⌝ }
-    ensures { λ r. ⌜ r ≡ lost + weightWhere isEmpty p row ⌝ }
+    ensures { λ r. ⌜ r ≡ lost + weightWhere isEmpty p (chargedRow charge row) ⌝ }
     ensures { λ _. ⌜ Grown (rowAdds p row) (now (sums .entry)) (now (sums .exit)) ⌝ }
 {
     let l = row.lits;
     let some = masks::without(l.positive ^ l.negative, p.decided);
     let left = masks::count(some);
     if some == 0 {
-        return lost + weight_under(p, row, 0);
+        let charged = with_weight(row, row.weight + charge_on(row, charge));
+        return lost + weight_under(p, charged, 0);
     }
     if left > 1 {
         return lost;

@@ -10,8 +10,7 @@ ghost use Rattle.walk.specs.Work.{workBy};
 use crate::states::halted;
 use crate::states::kept_at;
 use crate::states::visited;
-use bound::inner::bound_at;
-use groups::inner::bound_up_to;
+use groups::inner::price_up_to;
 use rules::Choice;
 use rules::Desk;
 use rules::Part;
@@ -31,8 +30,8 @@ fn price_at(desk: &[u64], choice: Choice, p: Part, best: u64, work: &mut [u64]) 
     ensures { λ r. ⌜ min best r ≡ min best (priceOf choice (now (desk .entry)) p) ⌝ }
 {
     match choice {
-        Choice::Units => bound_at(desk, p),
-        Choice::Groups => bound_up_to(desk, p, best, work),
+        Choice::Units => bound::inner::price_at(desk, p),
+        Choice::Groups => price_up_to(desk, p, best, work),
     }
 }
 

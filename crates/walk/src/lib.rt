@@ -1,7 +1,5 @@
 // The search: a walk over the undecided variables, true before false, that keeps the best reading met within a budget of nodes.
 ghost use mathlib.Core.Path.{_≡_};
-ghost use Prim.Native.Nat.{_≤_};
-ghost use Rattle.rules.specs.Desk.{inUse, mostCapacity};
 ghost use Rattle.rules.specs.Walk.{walkIn, foundBy, searched};
 ghost use Rattle.desk_laws.specs.Readable.{Readable};
 use formed::well_formed;
@@ -18,7 +16,6 @@ mod states;
 // What is found, with words of its own lent to the walk where it hunts for groups.
 fn found_by_choice(desk: &[u64], choice: Choice, budget: u32) -> Found
     requires { ⌜ Readable (now desk) ⌝ }
-    requires { ⌜ inUse (now desk) ≤ mostCapacity ⌝ }
     ensures { λ r. ⌜ r ≡ foundBy (walkIn (now (desk .entry)) choice budget) ⌝ }
 {
     match choice {

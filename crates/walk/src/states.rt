@@ -84,13 +84,17 @@ pub fn halted(s: Walked) -> Walked
     }
 }
 
-fn status_of(stopped: bool) -> Status
-    ensures { λ r. ⌜ r ≡ statusOf stopped ⌝ }
+// A search that is not stopped and has kept no reading has shown that there is none.
+fn status_of(stopped: bool, kept: bool) -> Status
+    ensures { λ r. ⌜ r ≡ statusOf stopped kept ⌝ }
 {
     if stopped {
-        Status::Stopped
-    } else {
+        return Status::Stopped;
+    }
+    if kept {
         Status::Done
+    } else {
+        Status::Impossible
     }
 }
 
@@ -108,7 +112,7 @@ fn best_of(kept: bool, weight: u64, reading: u64) -> Best
 pub fn found_by(s: Walked) -> Found
     ensures { λ r. ⌜ r ≡ foundBy s ⌝ }
 {
-    let status = status_of(s.stopped);
+    let status = status_of(s.stopped, s.kept);
     let best = best_of(s.kept, s.best, s.reading);
     Found {
         status,

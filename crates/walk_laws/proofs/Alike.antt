@@ -2,18 +2,19 @@
 use Prim.Native.Nat.{ℕ, _+_, min}
 use mathlib.Core.Path.{_≡_, ap, ap₂, _∙_}
 use mathlib.Core.List.{List}
-use mathlib.Core.Bool.{Bool, false, cond}
+use mathlib.Core.Bool.{Bool, false, cond, not}
 use native.Mathlib.Omega.{arith}
 use Rattle.masks.specs.Masks.{has}
-use Rattle.masks.specs.Sums.{sum}
-use Rattle.masks.proofs.Sums.{sum-ext}
+use Rattle.masks.specs.Sums.{sum, every}
+use Rattle.masks.proofs.Sums.{sum-ext, every-ext}
 use Rattle.literals.specs.Lits.{isEmpty, sameLits}
 use Rattle.rules.specs.declared.Choice.{Choice}
 use Rattle.rules.specs.declared.Part.{Part}
 use Rattle.rules.specs.declared.Row.{Row}
+use Rattle.rules.specs.Table.{mostWeight}
 use Rattle.rules.specs.Desk.{variables, inUse, decided, rowOn, decisions}
-use Rattle.rules.specs.Bound.{weightWhere, lostBeyond, lost, unitWeight, foreseenAt, foreseen, bound, lossesAt}
-use Rattle.rules.specs.Walk.{walk, undecided, atStart, walkOf, triedFirst, walkIn}
+use Rattle.rules.specs.Bound.{weightWhere, lostBeyond, lost, unitWeight, foreseenAt, foreseen, bound, lossesAt, lostHard, dead}
+use Rattle.rules.specs.Walk.{walk, undecided, atStart, walkOf, priceOf, triedFirst, walkIn}
 use Rattle.desk_laws.proofs.Alike.{Alike, weight-alike, decisions-alike}
 
 module _ {d e : List ℕ} (alike : Alike d e) where
@@ -64,6 +65,17 @@ module _ {d e : List ℕ} (alike : Alike d e) where
         stopped = false;
       })
 
+  pub dead-alike : (p : Part) → dead e p ≡ dead d p
+  unfolding dead
+  dead-alike p =
+      ap not (ap (λ (n : ℕ). every n (λ i. not (lostHard p (rowOn e i)))) (alike .heads 1 (omega arith))
+      ∙ every-ext (inUse d) (λ i l. ap (λ (r : Row). not (lostHard p r)) (alike .rows i l)))
+
+  -- prices by bounds that agree
+  pub prices-alike : (b c : Part → ℕ) → ((p : Part) → b p ≡ c p) → (p : Part)
+      → cond (dead e p) (mostWeight + 1) (b p) ≡ cond (dead d p) (mostWeight + 1) (c p)
+  prices-alike b c h p = ap₂ (λ (t : Bool) (x : ℕ). cond t (mostWeight + 1) x) (dead-alike p) (h p)
+
   -- by the bound of document 01
   pub walk-alike : (budget : ℕ) → walkIn e Choice.Units budget ≡ walkIn d Choice.Units budget
-  walk-alike budget = walks-alike (bound e) (bound d) triedFirst budget bound-alike
+  walk-alike budget = walks-alike (priceOf Choice.Units e) (priceOf Choice.Units d) triedFirst budget (prices-alike (bound e) (bound d) bound-alike)

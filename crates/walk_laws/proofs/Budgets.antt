@@ -54,9 +54,10 @@ module _ (b : Part → ℕ) (weight : ℕ → ℕ) (first : ℕ → Bool) (d : L
   unfolding walkOf
   search-met = walk-met-weights b first budget sound (undecided (variables d) (decided d)) (decisions d) (atStart d) (root d f)
 
-  -- a reading that is kept keeps the decisions, and weighs what is said
+  -- a reading that is kept keeps the decisions, and weighs what is said, which is no more than all there is
   pub search-kept : walkOf b first d budget .kept ≡ true
       → (keeps d (walkOf b first d budget .reading) ≡ true) × (weight (walkOf b first d budget .reading) ≡ walkOf b first d budget .best)
+      × (walkOf b first d budget .best ≤ weightOn d)
   unfolding atStart chosen
   search-kept k =
       let lefts : List ℕ = undecided (variables d) (decided d) in
@@ -74,6 +75,7 @@ module _ (b : Part → ℕ) (weight : ℕ → ℕ) (first : ℕ → Bool) (d : L
         ap (keeps d) reading ∙ leaf-keeps d f leaf
             (leaf-below first lefts (decisions d) leaf (member-of-sublist (met-leaves b first budget lefts (decisions d) (atStart d)) member)),
         ap weight reading ∙ sym best,
+        omega (arith, best, l .less),
       ))
       (scan-outcome price qs (chosen (atStart d)))
 

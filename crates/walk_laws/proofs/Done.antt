@@ -94,6 +94,7 @@ module _ (b : Part → ℕ) (weight : ℕ → ℕ) (first : ℕ → Bool) (d : L
       subst (λ (qs : List Part). List·Memᴰ leaf qs) (sym (l .stands)) (Memᴰ·append-right (l .front) (List·Memᴰ·head refl)) in
       record {
         kept = ap (λ (c : Chosen). c .kept) (l .isKept);
+        within = omega (arith, best, l .less);
         foremost = record {
           keepsAll = ap (keeps d) reading ∙ leaf-keeps d f leaf (leaf-below first lefts (decisions d) leaf member);
           weighs = ap weight reading ∙ sym best;

@@ -12,5 +12,6 @@ pub mod Undecided
 pub mod Nodes
 pub mod Orders
 pub mod Done
+pub mod Hard
 pub mod Budgets
 pub mod Alike

@@ -3,3 +3,4 @@ pub mod Scan
 pub mod Sound
 pub mod Order
 pub mod Right
+pub mod Hard

@@ -18,6 +18,7 @@ pub record Foremost (weight : ℕ → ℕ) (first : ℕ → Bool) (d : List ℕ)
 -- a walk that kept it
 pub record Right (weight : ℕ → ℕ) (first : ℕ → Bool) (d : List ℕ) (w : Walked) : Type 0 where
   pub kept : w .kept ≡ true
+  pub within : w .best ≤ weightOn d
   pub foremost : Foremost weight first d (w .reading) (w .best)
 
 -- a walk that kept none, since none is below the best that it starts with

@@ -6,14 +6,14 @@ use mathlib.Core.Logic.{_⊎_, inl, inr, ⊎-elim}
 use mathlib.Core.Bool.{Bool, true, false}
 use mathlib.Core.List.{List, [], _∷_, _++_}
 use native.Mathlib.Omega.{arith}
-use borrow.Author.Tests.{le-leb, lt-leb, leb-true, leb-false, ltb-false}
-use lib.Dec.{leb, ltb}
+use borrow.Author.Tests.{ltb-false}
+use lib.Dec.{ltb}
 use lib.ListN.{length, drop, take, length-append, take-append-drop}
 use lib.Seq.{take-at, length-take-le}
 use Rattle.masks.proofs.Choice.{impossible, clash, not-so}
 use Rattle.rules.proofs.Judging.{refuse-fine}
 use Rattle.rules.specs.declared.Refusal.{Refusal}
-use Rattle.rules.specs.declared.Refusal.the-variants.{TooManyVariables, BadTable, NoRoom, BadLiterals, BadText, WeightAtTop}
+use Rattle.rules.specs.declared.Refusal.the-variants.{TooManyVariables, BadTable, NoRoom, BadLiterals, BadText}
 use Rattle.rules.specs.declared.Judged.{Judged}
 use Rattle.rules.specs.declared.Judged.the-variants.{Fine, Refused}
 use Rattle.rules.specs.Refusals.{refuse}
@@ -27,7 +27,7 @@ use Rattle.wcnf_laws.specs.Form.{ClauseHeld, HeaderHeld, Held, FirstBrok
 use Rattle.wcnf_laws.specs.Order.{faultsFirst, Shape, whole, headless, cut}
 use Rattle.wcnf_laws.specs.Given.{figuresFirst}
 use Rattle.wcnf_laws.specs.Members.{Above, BothWays}
-use Rattle.wcnf_laws.specs.Given.{Begins, Faultless, NoneDue, Given, noHeader, figures, noClause, badClause, heavyClause, fine, Exactly}
+use Rattle.wcnf_laws.specs.Given.{Begins, Faultless, NoneDue, Given, noHeader, figures, noClause, badClause, fine, Exactly}
 use Rattle.wcnf_laws.proofs.RestLines.{lines-front, blank, blank-long, blank-held}
 use Rattle.wcnf_laws.proofs.RestJudged.{first-here, tail-alike, one-judged}
 use Rattle.wcnf_laws.proofs.Shapes.{shape-of}
@@ -54,42 +54,41 @@ each-both [] more p q = q
 each-both (c ∷ cs) more p q = (p .0, each-both cs more (p .1) q)
 
 -- what is judged of them first, and then what is judged of those behind
-faults-behind : (before : List ClauseLine) (c : ClauseLine) (i variables top : ℕ) (after : Judged)
-    → faultsFirst i variables top (clausesSaid (before ++ (c ∷ []))) after
-    ≡ faultsFirst i variables top (clausesSaid before)
-    (refuse (badMembers variables (numbersOf (c .literals))) (BadLiterals (i + length before))
-    (refuse (leb top (c .weight)) (WeightAtTop (i + length before)) after))
+faults-behind : (before : List ClauseLine) (c : ClauseLine) (i variables : ℕ) (after : Judged)
+    → faultsFirst i variables (clausesSaid (before ++ (c ∷ []))) after
+    ≡ faultsFirst i variables (clausesSaid before)
+    (refuse (badMembers variables (numbersOf (c .literals))) (BadLiterals (i + length before)) after)
 unfolding faultsFirst clausesSaid
-faults-behind [] c i variables top after =
+faults-behind [] c i variables after =
     let here : i ≡ i + 0 = omega arith in
-    ap (λ (k : ℕ). refuse (badMembers variables (numbersOf (c .literals))) (BadLiterals k) (refuse (leb top (c .weight)) (WeightAtTop k) after)) here
-faults-behind (d ∷ ds) c i variables top after =
+    ap (λ (k : ℕ). refuse (badMembers variables (numbersOf (c .literals))) (BadLiterals k) after) here
+faults-behind (d ∷ ds) c i variables after =
     let near : suc i + length ds ≡ i + suc (length ds) = omega arith in
-    ap (λ (j : Judged). refuse (badMembers variables (numbersOf (d .literals))) (BadLiterals i) (refuse (leb top (d .weight)) (WeightAtTop i) j))
-    (faults-behind ds c (suc i) variables top after
-    ∙ ap (λ (k : ℕ). faultsFirst (suc i) variables top (clausesSaid ds)
-    (refuse (badMembers variables (numbersOf (c .literals))) (BadLiterals k) (refuse (leb top (c .weight)) (WeightAtTop k) after))) near)
+    ap (λ (j : Judged). refuse (badMembers variables (numbersOf (d .literals))) (BadLiterals i) j)
+    (faults-behind ds c (suc i) variables after
+    ∙ ap (λ (k : ℕ). faultsFirst (suc i) variables (clausesSaid ds)
+    (refuse (badMembers variables (numbersOf (c .literals))) (BadLiterals k) after)) near)
 
 -- ---- read in turn
 
-record Turned (variables top : ℕ) (s : List ℕ) (m i at line : ℕ) (lines : List ClauseLine) : Type 0 where
+record Turned (variables : ℕ) (s : List ℕ) (m i at line : ℕ) (lines : List ClauseLine) : Type 0 where
   pub after : Judged
-  pub why : clausesWhy m i variables top s at line ≡ faultsFirst i variables top (clausesSaid lines) after
+  pub why : clausesWhy m i variables s at line ≡ faultsFirst i variables (clausesSaid lines) after
 
-turned : (variables top : ℕ) (s : List ℕ) (lines : List ClauseLine) (m i at line : ℕ) → Each ClauseHeld lines → length lines ≤ m
-    → firstLines (length lines) (drop at s) ≡ firstLines (length lines) (linesText lines) → Turned variables top s m i at line lines
+turned : (variables : ℕ) (s : List ℕ) (lines : List ClauseLine) (m i at line : ℕ) → Each ClauseHeld lines → length lines ≤ m
+    → firstLines (length lines) (drop at s) ≡ firstLines (length lines) (linesText lines) → Turned variables s m i at line lines
 unfolding faultsFirst clausesSaid
-turned variables top s [] m i at line held few alike = record { after = clausesWhy m i variables top s at line; why = refl }
-turned variables top s (c ∷ cs) zero i at line held few alike = absurd (omega arith)
-turned variables top s (c ∷ cs) (suc m) i at line held few alike =
+turned variables s [] m i at line held few alike = record { after = clausesWhy m i variables s at line; why = refl }
+turned variables s (c ∷ cs) zero i at line held few alike = absurd (omega arith)
+turned variables s (c ∷ cs) (suc m) i at line held few alike =
     let h = first-here s at (length cs) c cs alike in
     let next = at + length (clauseBytes c) + 1 in
-    let rest = turned variables top s cs m (suc i) next (line + 1) (held .1) (omega arith) (tail-alike s at next (length cs) c cs h alike) in
+    let rest = turned variables s cs m (suc i) next (line + 1) (held .1) (omega arith) (tail-alike s at next (length cs) c cs h alike) in
     record {
       after = rest .after;
       why =
-          one-judged variables top s m i at line c (held .0) h
-          ∙ ap (λ (j : Judged). refuse (badMembers variables (numbersOf (c .literals))) (BadLiterals i) (refuse (leb top (c .weight)) (WeightAtTop i) j))
+          one-judged variables s m i at line c (held .0) h
+          ∙ ap (λ (j : Judged). refuse (badMembers variables (numbersOf (c .literals))) (BadLiterals i) j)
           (rest .why);
     }
 
@@ -133,48 +132,45 @@ is-bad : (h : HeaderLine) (c : ClauseLine) → h .variables ≤ mostVariables
 is-bad h c few x = ⊎-elim (above-bad (h .variables) (numbersOf (c .literals))) (both-bad (h .variables) (numbersOf (c .literals)) few) x
 
 is-faultless : (h : HeaderLine) (c : ClauseLine) → h .variables ≤ mostVariables → badMembers (h .variables) (numbersOf (c .literals)) ≡ false
-    → leb (h .top) (c .weight) ≡ false → Faultless h c
-is-faultless h c few p q =
+    → Faultless h c
+is-faultless h c few p =
     record {
       none-above = λ x. clash (is-bad h c few (inl x)) p;
       one-way = λ x. clash (is-bad h c few (inr x)) p;
-      under-top = leb-false (h .top) (c .weight) q;
     }
 
 none-faulted : (h : HeaderLine) (lines : List ClauseLine) (i : ℕ) → Each (Faultless h) lines
-    → faultsFirst i (h .variables) (h .top) (clausesSaid lines) Fine ≡ Fine
+    → faultsFirst i (h .variables) (clausesSaid lines) Fine ≡ Fine
 unfolding faultsFirst clausesSaid
 none-faulted h [] i each = refl
 none-faulted h (c ∷ cs) i each =
-    rw (not-bad h c (each .0 .none-above) (each .0 .one-way), lt-leb (h .top) (c .weight) (each .0 .under-top)) (none-faulted h cs (suc i) (each .1))
+    rw (not-bad h c (each .0 .none-above) (each .0 .one-way)) (none-faulted h cs (suc i) (each .1))
 
 none-due : (most room : ℕ) (h : HeaderLine) (lines : List ClauseLine) → NoneDue most room h lines
-    → figuresFirst most room h (faultsFirst 0 (h .variables) (h .top) (clausesSaid lines) Fine) ≡ Fine
+    → figuresFirst most room h (faultsFirst 0 (h .variables) (clausesSaid lines) Fine) ≡ Fine
 none-due most room h lines n = ap (figuresFirst most room h) (none-faulted h lines 0 (n .clauses)) ∙ n .figures
 
 module _ (s : List ℕ) (most room : ℕ) (cs : List (List ℕ)) (h : HeaderLine) where
   -- what is judged of the lines that it begins with, and then something
   in-turn : (lines : List ClauseLine) → Begins s cs h lines
-      → (after : Judged) × (wcnfReadWhy most s room ≡ figuresFirst most room h (faultsFirst 0 (h .variables) (h .top) (clausesSaid lines) after))
+      → (after : Judged) × (wcnfReadWhy most s room ≡ figuresFirst most room h (faultsFirst 0 (h .variables) (clausesSaid lines) after))
   in-turn lines b =
       let w = begins-passed s cs h lines b in
-      let t = turned (h .variables) (h .top) s lines (h .clauses) 0 (w .0 .next) (1 + length cs + 1) (b .each) (b .few) (w .1) in
+      let t = turned (h .variables) s lines (h .clauses) 0 (w .0 .next) (1 + length cs + 1) (b .each) (b .few) (w .1) in
       (t .after, behind-header s most room cs h (w .0) _ (t .why))
 
   -- the clause behind faultless ones
   at-clause : (before : List ClauseLine) (c : ClauseLine) → Begins s cs h (before ++ (c ∷ [])) → NoneDue most room h before
       → (after : Judged) × (wcnfReadWhy most s room
-      ≡ refuse (badMembers (h .variables) (numbersOf (c .literals))) (BadLiterals (length before))
-      (refuse (leb (h .top) (c .weight)) (WeightAtTop (length before)) after))
+      ≡ refuse (badMembers (h .variables) (numbersOf (c .literals))) (BadLiterals (length before)) after)
   at-clause before c b none =
       let w = in-turn (before ++ (c ∷ [])) b in
       let here : 0 + length before ≡ length before = omega arith in (
         w .0,
         w .1
-            ∙ ap (figuresFirst most room h) (faults-behind before c 0 (h .variables) (h .top) (w .0))
+            ∙ ap (figuresFirst most room h) (faults-behind before c 0 (h .variables) (w .0))
             ∙ turn-free most room h (clausesSaid before) Fine _ (none-due most room h before none) .1
-            ∙ ap (λ (k : ℕ). refuse (badMembers (h .variables) (numbersOf (c .literals))) (BadLiterals k)
-            (refuse (leb (h .top) (c .weight)) (WeightAtTop k) (w .0))) here,
+            ∙ ap (λ (k : ℕ). refuse (badMembers (h .variables) (numbersOf (c .literals))) (BadLiterals k) (w .0)) here,
       )
 
   -- lines that are not there yet, to make the form whole
@@ -203,7 +199,7 @@ module _ (s : List ℕ) (most room : ℕ) (cs : List (List ℕ)) (h : HeaderLine
       let taken : take j lines ≡ before = take-at before (blank rest) j refl in
       cut-judged s most room f held j alike broken
       ∙ ap (λ (x : List ClauseLine). figuresFirst most room h
-      (faultsFirst 0 (h .variables) (h .top) (clausesSaid x) (Refused (BadText (length cs + (j + 2)))))) taken
+      (faultsFirst 0 (h .variables) (clausesSaid x) (Refused (BadText (length cs + (j + 2)))))) taken
       ∙ turn-free most room h (clausesSaid before) Fine _ (none-due most room h before none) .1
 
 nothing-else : (s : List ℕ) (most room : ℕ) (why : Judged) → Given s most room why → wcnfReadWhy most s room ≡ why
@@ -212,8 +208,6 @@ nothing-else s most room why (figures cs h b r e) = in-turn s most room cs h [] 
 nothing-else s most room why (noClause cs h before b none broken) = at-line s most room cs h before b none broken
 nothing-else s most room why (badClause cs h before c b none bad) =
     at-clause s most room cs h before c b none .1 ∙ rw (is-bad h c (few-variables most room h (none .figures)) bad)
-nothing-else s most room why (heavyClause cs h before c b none p q heavy) =
-    at-clause s most room cs h before c b none .1 ∙ rw (not-bad h c p q, le-leb (h .top) (c .weight) heavy)
 nothing-else s most room why (fine f held is none) = whole-judged s most room f held is ∙ none-due most room (f .header) (f .lines) none
 
 -- ---- and one of them is
@@ -223,23 +217,18 @@ data FirstFault (h : HeaderLine) (lines : List ClauseLine) : Type 0 where
   faultless : Each (Faultless h) lines → FirstFault h lines
   badly : (before : List ClauseLine) (c : ClauseLine) (behind : List ClauseLine) → lines ≡ (before ++ (c ∷ [])) ++ behind → Each (Faultless h) before
       → badMembers (h .variables) (numbersOf (c .literals)) ≡ true → FirstFault h lines
-  heavily : (before : List ClauseLine) (c : ClauseLine) (behind : List ClauseLine) → lines ≡ (before ++ (c ∷ [])) ++ behind → Each (Faultless h) before
-      → badMembers (h .variables) (numbersOf (c .literals)) ≡ false → h .top ≤ c .weight → FirstFault h lines
 
 fault-behind : (h : HeaderLine) (d : ClauseLine) (ds : List ClauseLine) → Faultless h d → FirstFault h ds → FirstFault h (d ∷ ds)
 fault-behind h d ds p (faultless each) = faultless (p, each)
 fault-behind h d ds p (badly before c behind is each x) = badly (d ∷ before) c behind (ap (λ (l : List ClauseLine). d ∷ l) is) (p, each) x
-fault-behind h d ds p (heavily before c behind is each x y) = heavily (d ∷ before) c behind (ap (λ (l : List ClauseLine). d ∷ l) is) (p, each) x y
 
 first-fault : (h : HeaderLine) → h .variables ≤ mostVariables → (lines : List ClauseLine) → FirstFault h lines
 first-fault h few [] = faultless tt
-first-fault h few (c ∷ cs) = go (badMembers (h .variables) (numbersOf (c .literals))) refl (leb (h .top) (c .weight)) refl (first-fault h few cs)
+first-fault h few (c ∷ cs) = go (badMembers (h .variables) (numbersOf (c .literals))) refl (first-fault h few cs)
   where
-    go : (a : Bool) → badMembers (h .variables) (numbersOf (c .literals)) ≡ a → (b : Bool) → leb (h .top) (c .weight) ≡ b → FirstFault h cs
-        → FirstFault h (c ∷ cs)
-    go true p b q ih = badly [] c cs refl tt p
-    go false p true q ih = heavily [] c cs refl tt p (leb-true (h .top) (c .weight) q)
-    go false p false q ih = fault-behind h c cs (is-faultless h c few p q) ih
+    go : (a : Bool) → badMembers (h .variables) (numbersOf (c .literals)) ≡ a → FirstFault h cs → FirstFault h (c ∷ cs)
+    go true p ih = badly [] c cs refl tt p
+    go false p ih = fault-behind h c cs (is-faultless h c few p) ih
 
 -- a text that begins with lines begins with those in front
 begins-front : (s : List ℕ) (cs : List (List ℕ)) (h : HeaderLine) (front more : List ClauseLine) → Begins s cs h (front ++ more) → Begins s cs h front
@@ -262,13 +251,6 @@ module _ (s : List ℕ) (most room : ℕ) (cs : List (List ℕ)) (h : HeaderLine
       let front = begins-front s cs h (before ++ (c ∷ [])) behind (subst (Begins s cs h) is b) in
       let none : NoneDue most room h before = record { figures = free; clauses = each } in
       (Refused (BadLiterals (length before)), badClause cs h before c front none (bad-found (h .variables) (numbersOf (c .literals)) bad))
-  by-fault free (heavily before c behind is each good heavy) =
-      let front = begins-front s cs h (before ++ (c ∷ [])) behind (subst (Begins s cs h) is b) in
-      let none : NoneDue most room h before = record { figures = free; clauses = each } in
-      let few = few-variables most room h free in (
-        Refused (WeightAtTop (length before)),
-        heavyClause cs h before c front none (λ x. clash (is-bad h c few (inl x)) good) (λ x. clash (is-bad h c few (inr x)) good) heavy,
-      )
 
   by-figures : (j : Judged) → figuresFirst most room h Fine ≡ j → Some s most room
   by-figures Fine e = by-fault e (first-fault h (few-variables most room h e) lines)

@@ -4,52 +4,52 @@ use mathlib.Core.Path.{_≡_, refl}
 use mathlib.Core.List.{List, [], _∷_, _++_}
 use native.Mathlib.Omega.{arith}
 use borrow.Author.Tests.{ltb-false}
-use lib.Dec.{leb, ltb}
+use lib.Dec.{ltb}
 use lib.ListN.{length, take, drop, length-append}
 use lib.Seq.{take-at}
 use Rattle.masks.proofs.Choice.{impossible}
 use Rattle.literals.specs.Literal.{mostVariables}
-use Rattle.rules.specs.declared.Refusal.the-variants.{TooManyVariables, BadTable, NoRoom, BadLiterals, BadText, WeightAtTop}
+use Rattle.rules.specs.declared.Refusal.the-variants.{TooManyVariables, BadTable, NoRoom, BadLiterals, BadText}
 use Rattle.rules.specs.declared.Judged.{Judged}
 use Rattle.rules.specs.declared.Judged.the-variants.{Fine, Refused}
 use Rattle.rules.specs.declared.Parsed.{Parsed}
 use Rattle.rules.specs.declared.WcnfHead.{WcnfHead}
 use Rattle.rules.specs.declared.WcnfRead.{WcnfRead}
 use Rattle.rules.specs.Refusals.{_when_, asIn, firstDue}
-use Rattle.rules.specs.Table.{rowWords, rowWordsOf, newRow}
+use Rattle.rules.specs.Table.{rowWords, rowWordsOf}
 use Rattle.rules.specs.Reader.{numberAt, onNumber}
-use Rattle.rules.specs.WcnfReader.{MembersRead, members, brokenLine, onMembers, membersFrom, litsOfMembers, badMembers, clausesWhy, clausesWords}
+use Rattle.rules.specs.WcnfReader.{MembersRead, members, brokenLine, onMembers, membersFrom, litsOfMembers, badMembers, clausesWhy, clauseRow, clausesWords}
 use Rattle.rules.specs.WcnfReader.{headerOf, headerWhy, wcnfReadWhy, wcnfWords, wcnfReadAs, wcnfRead, wcnfTable}
 use Rattle.rules.proofs.Judging.{refuse-fine, words-fine}
 use Rattle.text_laws.proofs.RowWords.{row-words}
 
 -- ---- clauses that are all fine make a row each
 
-module _ (m n top : ℕ) (s : List ℕ) (ih : (i at line : ℕ) → clausesWhy m i n top s at line ≡ Fine → length (clausesWords m s at) ≡ rowWords * m) where
+module _ (m n top : ℕ) (s : List ℕ) (ih : (i at line : ℕ) → clausesWhy m i n s at line ≡ Fine → length (clausesWords m top s at) ≡ rowWords * m) where
   by-members : (i line w : ℕ) (r : MembersRead)
       → onMembers r (Refused (BadText line)) (λ ls next.
-      firstDue (BadLiterals i when badMembers n ls ∷ WeightAtTop i when leb top w ∷ asIn (clausesWhy m (suc i) n top s next (line + 1)) ∷ []))
+      firstDue (BadLiterals i when badMembers n ls ∷ asIn (clausesWhy m (suc i) n s next (line + 1)) ∷ []))
       ≡ Fine
-      → length (onMembers r [] (λ ls next. rowWordsOf (newRow (litsOfMembers ls) w) ++ clausesWords m s next)) ≡ rowWords * suc m
+      → length (onMembers r [] (λ ls next. rowWordsOf (clauseRow top w (litsOfMembers ls)) ++ clausesWords m top s next)) ≡ rowWords * suc m
   by-members i line w (members ls next) e =
       let p1 = refuse-fine (badMembers n ls) (BadLiterals i) _ e in
-      let p2 = refuse-fine (leb top w) (WeightAtTop i) _ (p1 .1) in
-      let row = newRow (litsOfMembers ls) w in
-      rw (length-append (rowWordsOf row) (clausesWords m s next)) (omega (arith, row-words row, ih (suc i) next (line + 1) (p2 .1)))
+      let row = clauseRow top w (litsOfMembers ls) in
+      rw (length-append (rowWordsOf row) (clausesWords m top s next)) (omega (arith, row-words row, ih (suc i) next (line + 1) (p1 .1)))
   by-members i line w brokenLine e = impossible (cc)
 
   by-number : (i line : ℕ) (p : Parsed)
       → onNumber p (Refused (BadText line)) (λ w next.
       onMembers (membersFrom (length s) s next) (Refused (BadText line)) (λ ls next.
-      firstDue (BadLiterals i when badMembers n ls ∷ WeightAtTop i when leb top w ∷ asIn (clausesWhy m (suc i) n top s next (line + 1)) ∷ [])))
+      firstDue (BadLiterals i when badMembers n ls ∷ asIn (clausesWhy m (suc i) n s next (line + 1)) ∷ [])))
       ≡ Fine
       → length
       (onNumber p [] (λ w next.
-      onMembers (membersFrom (length s) s next) [] (λ ls next. rowWordsOf (newRow (litsOfMembers ls) w) ++ clausesWords m s next))) ≡ rowWords * suc m
+      onMembers (membersFrom (length s) s next) [] (λ ls next. rowWordsOf (clauseRow top w (litsOfMembers ls)) ++ clausesWords m top s next)))
+      ≡ rowWords * suc m
   by-number i line (Parsed.Number w next) e = by-members i line w (membersFrom (length s) s next) e
   by-number i line Parsed.Broken e = impossible (cc)
 
-clauses-count : (m i n top : ℕ) (s : List ℕ) (at line : ℕ) → clausesWhy m i n top s at line ≡ Fine → length (clausesWords m s at) ≡ rowWords * m
+clauses-count : (m i n top : ℕ) (s : List ℕ) (at line : ℕ) → clausesWhy m i n s at line ≡ Fine → length (clausesWords m top s at) ≡ rowWords * m
 unfolding clausesWhy clausesWords
 clauses-count zero i n top s at line e = refl
 clauses-count (suc m) i n top s at line e =

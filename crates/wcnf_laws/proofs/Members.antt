@@ -1,4 +1,4 @@
--- The literals of a clause depend on its members alone, and so does the table on the weights and members of the clauses.
+-- The literals of a clause depend on its members alone, and so does the table on top and on the weights and members of the clauses.
 use Prim.Native.Nat.{ℕ, zero, suc}
 use mathlib.Core.Path.{_≡_, refl, sym, ap, ap₂, _∙_}
 use mathlib.Core.List.{List, [], _∷_, _++_, List·Memᴰ, List·Memᴰ·head, List·Memᴰ·tail}
@@ -10,9 +10,9 @@ use Rattle.literals.proofs.TwoMasks.{none-together, together-comm, together-sel
 use lib.ListN.{length, drop}
 use Rattle.rules.specs.declared.Parsed.{Parsed}
 use Rattle.rules.specs.declared.Judged.the-variants.{Fine}
-use Rattle.rules.specs.Table.{rowWordsOf, newRow}
+use Rattle.rules.specs.Table.{rowWordsOf}
 use Rattle.rules.specs.Reader.{numberAt, onNumber}
-use Rattle.rules.specs.WcnfReader.{MembersRead, members, brokenLine, onMembers, litsOfMembers, membersFrom, clausesWords}
+use Rattle.rules.specs.WcnfReader.{MembersRead, members, brokenLine, onMembers, litsOfMembers, membersFrom, clauseRow, clausesWords}
 use Rattle.rules.specs.WcnfReader.{wcnfReadWhy, wcnfWords, wcnfRead, wcnfTable}
 use Rattle.rules.proofs.Judging.{words-fine}
 use Rattle.wcnf_laws.specs.Members.{SameMembers, SameClauses, none, next}
@@ -45,37 +45,37 @@ members-same ls ms same =
 
 -- ---- the table
 
--- the words that clauses make
-unfoldable pub wordsOfClauses : List (ℕ × List ℤ) → List ℕ
-wordsOfClauses [] = []
-wordsOfClauses (c ∷ cs) = rowWordsOf (newRow (litsOfMembers (c .1)) (c .0)) ++ wordsOfClauses cs
+-- the words that clauses make under a top
+unfoldable pub wordsOfClauses : ℕ → List (ℕ × List ℤ) → List ℕ
+wordsOfClauses top [] = []
+wordsOfClauses top (c ∷ cs) = rowWordsOf (clauseRow top (c .0) (litsOfMembers (c .1))) ++ wordsOfClauses top cs
 
-pub clauses-same : {cs ds : List (ℕ × List ℤ)} → SameClauses cs ds → wordsOfClauses cs ≡ wordsOfClauses ds
+pub clauses-same : (top : ℕ) {cs ds : List (ℕ × List ℤ)} → SameClauses cs ds → wordsOfClauses top cs ≡ wordsOfClauses top ds
 unfolding wordsOfClauses
-clauses-same none = refl
-clauses-same (next w ls ms same rest) =
-    ap₂ (λ (l : Lits) (more : List ℕ). rowWordsOf (newRow l w) ++ more) (members-same ls ms same) (clauses-same rest)
+clauses-same top none = refl
+clauses-same top (next w ls ms same rest) =
+    ap₂ (λ (l : Lits) (more : List ℕ). rowWordsOf (clauseRow top w l) ++ more) (members-same ls ms same) (clauses-same top rest)
 
-module _ (s : List ℕ) (m : ℕ) (ih : (at : ℕ) → clausesWords m s at ≡ wordsOfClauses (clausesAt m s at)) where
+module _ (top : ℕ) (s : List ℕ) (m : ℕ) (ih : (at : ℕ) → clausesWords m top s at ≡ wordsOfClauses top (clausesAt m s at)) where
   of-members : (w : ℕ) (r : MembersRead)
-      → onMembers r [] (λ ls at. rowWordsOf (newRow (litsOfMembers ls) w) ++ clausesWords m s at) ≡ wordsOfClauses
+      → onMembers r [] (λ ls at. rowWordsOf (clauseRow top w (litsOfMembers ls)) ++ clausesWords m top s at) ≡ wordsOfClauses top
       (onMembers r [] (λ ls at. (w, ls) ∷ clausesAt m s at))
   unfolding wordsOfClauses
-  of-members w (members ls at) = ap (λ (more : List ℕ). rowWordsOf (newRow (litsOfMembers ls) w) ++ more) (ih at)
+  of-members w (members ls at) = ap (λ (more : List ℕ). rowWordsOf (clauseRow top w (litsOfMembers ls)) ++ more) (ih at)
   of-members w brokenLine = refl
 
   of-number : (p : Parsed)
-      → onNumber p [] (λ w at. onMembers (membersFrom (length s) s at) [] (λ ls at. rowWordsOf (newRow (litsOfMembers ls) w) ++ clausesWords m s at))
-      ≡ wordsOfClauses (onNumber p [] (λ w at. onMembers (membersFrom (length s) s at) [] (λ ls at. (w, ls) ∷ clausesAt m s at)))
+      → onNumber p [] (λ w at. onMembers (membersFrom (length s) s at) [] (λ ls at. rowWordsOf (clauseRow top w (litsOfMembers ls)) ++ clausesWords m top s at))
+      ≡ wordsOfClauses top (onNumber p [] (λ w at. onMembers (membersFrom (length s) s at) [] (λ ls at. (w, ls) ∷ clausesAt m s at)))
   unfolding wordsOfClauses
   of-number (Parsed.Number w at) = of-members w (membersFrom (length s) s at)
   of-number Parsed.Broken = refl
 
 -- the words of a text are those of its clauses
-pub words-of-clauses : (m : ℕ) (s : List ℕ) (at : ℕ) → clausesWords m s at ≡ wordsOfClauses (clausesAt m s at)
+pub words-of-clauses : (m top : ℕ) (s : List ℕ) (at : ℕ) → clausesWords m top s at ≡ wordsOfClauses top (clausesAt m s at)
 unfolding clausesWords clausesAt wordsOfClauses
-words-of-clauses zero s at = refl
-words-of-clauses (suc m) s at = of-number s m (words-of-clauses m s) (numberAt s at)
+words-of-clauses zero top s at = refl
+words-of-clauses (suc m) top s at = of-number top s m (words-of-clauses m top s) (numberAt s at)
 
 -- ---- two texts that say the same
 
@@ -84,7 +84,8 @@ module _ (s t : List ℕ) (same : SaysSame s t) where
   unfolding wcnfWords
   same-words =
       rw (same .here, same .there)
-      (words-of-clauses (same .clauses) s (same .next-here) ∙ clauses-same (same .same) ∙ sym (words-of-clauses (same .clauses) t (same .next-there)))
+      (words-of-clauses (same .clauses) (same .top) s (same .next-here) ∙ clauses-same (same .top) (same .same)
+      ∙ sym (words-of-clauses (same .clauses) (same .top) t (same .next-there)))
 
   -- where both are accepted, they are answered alike and leave the same words
   pub same-answer : (most room : ℕ) → wcnfReadWhy most s room ≡ Fine → wcnfReadWhy most t room ≡ Fine → wcnfRead most s room ≡ wcnfRead most t room

@@ -6,13 +6,13 @@ use mathlib.Core.Logic.{⊎-elim}
 use mathlib.Core.Bool.{Bool, true, false}
 use mathlib.Core.List.{List, [], _∷_, _++_}
 use native.Mathlib.Omega.{arith}
-use lib.Dec.{leb, ltb}
+use lib.Dec.{ltb}
 use lib.IntN.{ℤ}
 use lib.ListN.{length, drop, take}
 use Rattle.masks.proofs.Choice.{impossible, not-so, lt-or-le}
 use Rattle.literals.specs.Literal.{mostVariables}
 use Rattle.rules.specs.declared.WcnfHead.{WcnfHead}
-use Rattle.rules.specs.declared.Refusal.the-variants.{TooManyVariables, BadTable, NoRoom, BadLiterals, BadText, WeightAtTop}
+use Rattle.rules.specs.declared.Refusal.the-variants.{TooManyVariables, BadTable, NoRoom, BadLiterals, BadText}
 use Rattle.rules.specs.declared.Judged.{Judged}
 use Rattle.rules.specs.declared.Judged.the-variants.{Fine, Refused}
 use Rattle.rules.specs.Refusals.{refuse}
@@ -138,7 +138,7 @@ headed s cs h p = p .reads (suc (length s)) 1 (omega (arith, p .few, p .inside))
 
 -- what is judged behind the header
 pub behind-header : (s : List ℕ) (most room : ℕ) (cs : List (List ℕ)) (h : HeaderLine) → (p : Passed s 0 cs h) → (after : Judged)
-    → clausesWhy (h .clauses) 0 (h .variables) (h .top) s (p .next) (1 + length cs + 1) ≡ after → wcnfReadWhy most s room ≡ figuresFirst most room h after
+    → clausesWhy (h .clauses) 0 (h .variables) s (p .next) (1 + length cs + 1) ≡ after → wcnfReadWhy most s room ≡ figuresFirst most room h after
 unfolding wcnfReadWhy
 behind-header s most room cs h p after e = rw (headed s cs h p) (ap (figuresFirst most room h) e)
 
@@ -153,15 +153,15 @@ whole-passed s f held is =
     (p, λ n. p .down n rest (ap (firstLines (under cs (suc n))) is))
 
 pub whole-judged : (s : List ℕ) (most room : ℕ) (f : Form) → Held f → s ≡ formText f
-    → wcnfReadWhy most s room ≡ figuresFirst most room (f .header) (faultsFirst 0 (f .header .variables) (f .header .top) (clausesSaid (f .lines)) Fine)
+    → wcnfReadWhy most s room ≡ figuresFirst most room (f .header) (faultsFirst 0 (f .header .variables) (clausesSaid (f .lines)) Fine)
 whole-judged s most room f held is =
     let cs = f .comments in
     let h = f .header in
     let w = whole-passed s f held is in
     let p = w .0 in
     behind-header s most room cs h p _
-    (ap (λ (m : ℕ). clausesWhy m 0 (h .variables) (h .top) s (p .next) (1 + length cs + 1)) (sym (held .whole))
-    ∙ ends-judged (h .variables) (h .top) s (f .lines) 0 (p .next) (1 + length cs + 1) (held .lines) (p .inside) (w .1))
+    (ap (λ (m : ℕ). clausesWhy m 0 (h .variables) s (p .next) (1 + length cs + 1)) (sym (held .whole))
+    ∙ ends-judged (h .variables) s (f .lines) 0 (p .next) (1 + length cs + 1) (held .lines) (p .inside) (w .1))
 
 -- ---- no header
 
@@ -200,7 +200,7 @@ pub cut-judged : (s : List ℕ) (most room : ℕ) (f : Form) → Held f → (j :
     → firstLines (length (f .comments) + (j + 1)) s ≡ firstLines (length (f .comments) + (j + 1)) (formText f)
     → FirstBroken s (length (f .comments) + (j + 2))
     → wcnfReadWhy most s room ≡ figuresFirst most room (f .header)
-    (faultsFirst 0 (f .header .variables) (f .header .top) (clausesSaid (take j (f .lines))) (Refused (BadText (length (f .comments) + (j + 2)))))
+    (faultsFirst 0 (f .header .variables) (clausesSaid (take j (f .lines))) (Refused (BadText (length (f .comments) + (j + 2)))))
 unfolding formText
 cut-judged s most room f held j alike b =
     let cs = f .comments in
@@ -210,8 +210,8 @@ cut-judged s most room f held j alike b =
     let place : 1 + length cs + 1 + j ≡ length cs + (j + 2) = omega arith in
     let two : suc j + 1 ≡ j + 2 = omega arith in
     behind-header s most room cs h p _
-    (ap (λ (m : ℕ). clausesWhy m 0 (h .variables) (h .top) s (p .next) (1 + length cs + 1)) (sym (held .whole))
-    ∙ breaks-judged (h .variables) (h .top) s j (f .lines) 0 (p .next) (1 + length cs + 1) (held .lines) (p .inside) (w .1)
+    (ap (λ (m : ℕ). clausesWhy m 0 (h .variables) s (p .next) (1 + length cs + 1)) (sym (held .whole))
+    ∙ breaks-judged (h .variables) s j (f .lines) 0 (p .next) (1 + length cs + 1) (held .lines) (p .inside) (w .1)
     (λ other long each q.
     subst (λ (n : ℕ). FirstBroken s (length cs + n)) (sym two) b .breaks
     (record {
@@ -219,7 +219,7 @@ cut-judged s most room f held j alike b =
       held = record { comments = held .comments; header = held .header; lines = each; whole = long ∙ held .whole };
       alike = passed-alike s cs h (suc j) (linesText other) p q;
     }))
-    ∙ ap (λ (k : ℕ). faultsFirst 0 (h .variables) (h .top) (clausesSaid (take j (f .lines))) (Refused (BadText k))) place)
+    ∙ ap (λ (k : ℕ). faultsFirst 0 (h .variables) (clausesSaid (take j (f .lines))) (Refused (BadText k))) place)
 
 -- ---- any text
 
@@ -242,19 +242,18 @@ figures-pass most room h after other k e = go (ltb mostVariables (h .variables))
     go false false true q = impossible (cc)
     go false false false q = refl
 
-faults-pass : (cs : List (ℕ × List ℤ)) (i variables top : ℕ) (after other : Judged) (k : ℕ) → faultsFirst i variables top cs after ≡ Refused (BadText k)
-    → faultsFirst i variables top cs other ≡ other
+faults-pass : (cs : List (ℕ × List ℤ)) (i variables : ℕ) (after other : Judged) (k : ℕ) → faultsFirst i variables cs after ≡ Refused (BadText k)
+    → faultsFirst i variables cs other ≡ other
 unfolding faultsFirst
-faults-pass [] i variables top after other k e = refl
-faults-pass (c ∷ cs) i variables top after other k e =
-    go (badMembers variables (c .1)) (leb top (c .0)) (faults-pass cs (suc i) variables top after other k) e
+faults-pass [] i variables after other k e = refl
+faults-pass (c ∷ cs) i variables after other k e =
+    go (badMembers variables (c .1)) (faults-pass cs (suc i) variables after other k) e
   where
-    go : (a b : Bool) → (faultsFirst (suc i) variables top cs after ≡ Refused (BadText k) → faultsFirst (suc i) variables top cs other ≡ other)
-        → refuse a (BadLiterals i) (refuse b (WeightAtTop i) (faultsFirst (suc i) variables top cs after)) ≡ Refused (BadText k)
-        → refuse a (BadLiterals i) (refuse b (WeightAtTop i) (faultsFirst (suc i) variables top cs other)) ≡ other
-    go true b ih q = impossible (cc)
-    go false true ih q = impossible (cc)
-    go false false ih q = ih q
+    go : (a : Bool) → (faultsFirst (suc i) variables cs after ≡ Refused (BadText k) → faultsFirst (suc i) variables cs other ≡ other)
+        → refuse a (BadLiterals i) (faultsFirst (suc i) variables cs after) ≡ Refused (BadText k)
+        → refuse a (BadLiterals i) (faultsFirst (suc i) variables cs other) ≡ other
+    go true ih q = impossible (cc)
+    go false ih q = ih q
 
 -- and so it does where nothing is due
 figures-free : (most room : ℕ) (h : HeaderLine) (after other : Judged) → figuresFirst most room h after ≡ Fine
@@ -265,33 +264,32 @@ figures-free most room h after other e =
     let p3 = refuse-fine (ltb room (rowWords * h .clauses)) NoRoom _ (p2 .1) in
     (p3 .1, rw (p1 .0, p2 .0, p3 .0))
 
-faults-free : (cs : List (ℕ × List ℤ)) (i variables top : ℕ) (after other : Judged) → faultsFirst i variables top cs after ≡ Fine
-    → (after ≡ Fine) × (faultsFirst i variables top cs other ≡ other)
+faults-free : (cs : List (ℕ × List ℤ)) (i variables : ℕ) (after other : Judged) → faultsFirst i variables cs after ≡ Fine
+    → (after ≡ Fine) × (faultsFirst i variables cs other ≡ other)
 unfolding faultsFirst
-faults-free [] i variables top after other e = (e, refl)
-faults-free (c ∷ cs) i variables top after other e =
+faults-free [] i variables after other e = (e, refl)
+faults-free (c ∷ cs) i variables after other e =
     let p1 = refuse-fine (badMembers variables (c .1)) (BadLiterals i) _ e in
-    let p2 = refuse-fine (leb top (c .0)) (WeightAtTop i) _ (p1 .1) in
-    let rest = faults-free cs (suc i) variables top after other (p2 .1) in
-    (rest .0, rw (p1 .0, p2 .0) (rest .1))
+    let rest = faults-free cs (suc i) variables after other (p1 .1) in
+    (rest .0, rw (p1 .0) (rest .1))
 
 -- all that is due before the last, with the last behind it
 abbrev inTurn : ℕ → ℕ → HeaderLine → List (ℕ × List ℤ) → Judged → Judged
-inTurn most room h cs after = figuresFirst most room h (faultsFirst 0 (h .variables) (h .top) cs after)
+inTurn most room h cs after = figuresFirst most room h (faultsFirst 0 (h .variables) cs after)
 
 turn-pass : (most room : ℕ) (h : HeaderLine) (cs : List (ℕ × List ℤ)) (after other : Judged) (k : ℕ) → inTurn most room h cs after ≡ Refused (BadText k)
     → (after ≡ Refused (BadText k)) × (inTurn most room h cs other ≡ other)
 turn-pass most room h cs after other k e =
-    let inner = sym (figures-pass most room h _ (faultsFirst 0 (h .variables) (h .top) cs after) k e) ∙ e in (
-      sym (faults-pass cs 0 (h .variables) (h .top) after after k inner) ∙ inner,
-      figures-pass most room h _ (faultsFirst 0 (h .variables) (h .top) cs other) k e ∙ faults-pass cs 0 (h .variables) (h .top) after other k inner,
+    let inner = sym (figures-pass most room h _ (faultsFirst 0 (h .variables) cs after) k e) ∙ e in (
+      sym (faults-pass cs 0 (h .variables) after after k inner) ∙ inner,
+      figures-pass most room h _ (faultsFirst 0 (h .variables) cs other) k e ∙ faults-pass cs 0 (h .variables) after other k inner,
     )
 
 pub turn-free : (most room : ℕ) (h : HeaderLine) (cs : List (ℕ × List ℤ)) (after other : Judged) → inTurn most room h cs after ≡ Fine
     → (after ≡ Fine) × (inTurn most room h cs other ≡ other)
 turn-free most room h cs after other e =
-    let outer = figures-free most room h _ (faultsFirst 0 (h .variables) (h .top) cs other) e in
-    let inner = faults-free cs 0 (h .variables) (h .top) after other (outer .0) in
+    let outer = figures-free most room h _ (faultsFirst 0 (h .variables) cs other) e in
+    let inner = faults-free cs 0 (h .variables) after other (outer .0) in
     (inner .0, outer .1 ∙ inner .1)
 
 -- a text has one first line that breaks the form, and one of the form has none

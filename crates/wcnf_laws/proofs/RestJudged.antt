@@ -1,13 +1,12 @@
--- How the clauses' lines are judged: those of the form one by one, by 5 and 21; then that all is at its end, or the line that is none of the form.
+-- How the clauses' lines are judged: those of the form one by one, by 5; then that all is at its end, or the line that is none of the form.
 use Prim.Native.Nat.{ℕ, zero, suc, _+_, _≤_}
 use mathlib.Core.Path.{_≡_, refl, sym, ap, _∙_}
 use mathlib.Core.List.{List, [], _∷_}
 use native.Mathlib.Omega.{arith}
 use borrow.Author.Tests.{eq-eqb, ne-eqb}
-use lib.Dec.{leb}
 use lib.IntN.{ℤ}
 use lib.ListN.{length, drop, take, length-drop, drop-of-length-le}
-use Rattle.rules.specs.declared.Refusal.the-variants.{BadText, BadLiterals, WeightAtTop}
+use Rattle.rules.specs.declared.Refusal.the-variants.{BadText, BadLiterals}
 use Rattle.rules.specs.declared.Judged.{Judged}
 use Rattle.rules.specs.declared.Judged.the-variants.{Fine, Refused}
 use Rattle.rules.specs.Refusals.{refuse}
@@ -49,38 +48,38 @@ pub tail-alike : (s : List ℕ) (at next n : ℕ) (c : ClauseLine) (cs : List Cl
 unfolding linesText
 tail-alike s at next n c cs h e = here-tail s at next (clauseBytes c) (clause-no-feed c) h n (linesText cs) e
 
-module _ (variables top : ℕ) (s : List ℕ) where
+module _ (variables : ℕ) (s : List ℕ) where
   -- one clause of the form in front
   pub one-judged : (m i at line : ℕ) (c : ClauseLine) → ClauseHeld c → Here s at (clauseBytes c) (at + length (clauseBytes c) + 1)
-      → clausesWhy (suc m) i variables top s at line
+      → clausesWhy (suc m) i variables s at line
       ≡ refuse (badMembers variables (numbersOf (c .literals))) (BadLiterals i)
-      (refuse (leb top (c .weight)) (WeightAtTop i) (clausesWhy m (suc i) variables top s (at + length (clauseBytes c) + 1) (line + 1)))
+      (clausesWhy m (suc i) variables s (at + length (clauseBytes c) + 1) (line + 1))
   unfolding clausesWhy
   one-judged m i at line c held h = clause-read s at c held (h .stand) (h .feed) _ _
 
-  none-left : (i at line : ℕ) → at ≡ length s → clausesWhy 0 i variables top s at line ≡ Fine
+  none-left : (i at line : ℕ) → at ≡ length s → clausesWhy 0 i variables s at line ≡ Fine
   unfolding clausesWhy
   none-left i at line e = rw (eq-eqb at (length s) e)
 
-  some-left : (i at line : ℕ) → (at ≡ length s → ⊥) → clausesWhy 0 i variables top s at line ≡ Refused (BadText line)
+  some-left : (i at line : ℕ) → (at ≡ length s → ⊥) → clausesWhy 0 i variables s at line ≡ Refused (BadText line)
   unfolding clausesWhy
   some-left i at line e = rw (ne-eqb at (length s) e)
 
   unread-judged : (m i at line : ℕ) → ((broken : Judged) (go : ℕ → List ℤ → ℕ → Judged) → onClause s at broken go ≡ broken)
-      → clausesWhy (suc m) i variables top s at line ≡ Refused (BadText line)
+      → clausesWhy (suc m) i variables s at line ≡ Refused (BadText line)
   unfolding clausesWhy
   unread-judged m i at line h = h _ _
 
   pub ends-judged : (lines : List ClauseLine) (i at line : ℕ) → Each ClauseHeld lines → at ≤ length s
       → ((n : ℕ) → firstLines n (drop at s) ≡ firstLines n (linesText lines))
-      → clausesWhy (length lines) i variables top s at line ≡ faultsFirst i variables top (clausesSaid lines) Fine
+      → clausesWhy (length lines) i variables s at line ≡ faultsFirst i variables (clausesSaid lines) Fine
   unfolding faultsFirst clausesSaid
   ends-judged [] i at line held l alike = none-left i at line (omega (arith, at-end s at (first-of 0 (drop at s) [] (alike 1) ∙ no-line) .1))
   ends-judged (c ∷ cs) i at line held l alike =
       let h = first-here s at 0 c cs (alike 1) in
       let next = at + length (clauseBytes c) + 1 in
       one-judged (length cs) i at line c (held .0) h
-      ∙ ap (λ (j : Judged). refuse (badMembers variables (numbersOf (c .literals))) (BadLiterals i) (refuse (leb top (c .weight)) (WeightAtTop i) j))
+      ∙ ap (λ (j : Judged). refuse (badMembers variables (numbersOf (c .literals))) (BadLiterals i) j)
       (ends-judged cs (suc i) next (line + 1) (held .1) (h .inside) (λ n. tail-alike s at next n c cs h (alike (suc n))))
 
   -- no lines of the form are alike with one line more
@@ -94,7 +93,7 @@ module _ (variables top : ℕ) (s : List ℕ) where
       none [] refl tt (ap (firstLines 1) (drop-of-length-le s past))
 
   unread-line : (m i at line : ℕ) (cs : List ClauseLine) → length cs ≡ m → Each ClauseHeld cs → NoneAlike (suc m) at 1 → ClauseShape s at
-      → clausesWhy (suc m) i variables top s at line ≡ Refused (BadText line)
+      → clausesWhy (suc m) i variables s at line ≡ Refused (BadText line)
   unfolding firstLines
   unread-line m i at line cs long held none (unread e h) = unread-judged m i at line e
   unread-line m i at line cs long held none (read w ms next f) =
@@ -102,7 +101,7 @@ module _ (variables top : ℕ) (s : List ℕ) where
 
   pub breaks-judged : (j : ℕ) (lines : List ClauseLine) (i at line : ℕ) → Each ClauseHeld lines → at ≤ length s
       → firstLines j (drop at s) ≡ firstLines j (linesText lines) → NoneAlike (length lines) at (suc j)
-      → clausesWhy (length lines) i variables top s at line ≡ faultsFirst i variables top (clausesSaid (take j lines)) (Refused (BadText (line + j)))
+      → clausesWhy (length lines) i variables s at line ≡ faultsFirst i variables (clausesSaid (take j lines)) (Refused (BadText (line + j)))
   unfolding faultsFirst clausesSaid
   breaks-judged zero [] i at line held l alike none =
       some-left i at line (left-over at none) ∙ ap (λ (k : ℕ). Refused (BadText k)) (omega arith)
@@ -120,5 +119,5 @@ module _ (variables top : ℕ) (s : List ℕ) where
       none (c ∷ other) (ap suc long) (held .0, each)
       (h .lines (suc j) ∙ ap (λ (x : List Line). ended (clauseBytes c) ∷ x) e ∙ sym (lines-front (suc j) c other))) in
       one-judged (length cs) i at line c (held .0) h
-      ∙ ap (λ (k : Judged). refuse (badMembers variables (numbersOf (c .literals))) (BadLiterals i) (refuse (leb top (c .weight)) (WeightAtTop i) k))
-      (after ∙ ap (λ (k : ℕ). faultsFirst (suc i) variables top (clausesSaid (take j cs)) (Refused (BadText k))) far)
+      ∙ ap (λ (k : Judged). refuse (badMembers variables (numbersOf (c .literals))) (BadLiterals i) k)
+      (after ∙ ap (λ (k : ℕ). faultsFirst (suc i) variables (clausesSaid (take j cs)) (Refused (BadText k))) far)

@@ -1,18 +1,18 @@
 -- What a text of the form says is read as it is said: its figures, and of each clause the weight and the literals. So texts that differ only in comments,
--- gaps, the order of literals or repeats give the same table, and are judged alike where top is the same.
+-- gaps, the order of literals or repeats give the same table, and are judged alike.
 use Prim.Native.Nat.{ℕ, suc, _+_}
 use mathlib.Core.Path.{_≡_, refl, sym, ap, ap₂, subst, _∙_}
 use mathlib.Core.Logic.{⊎-elim}
 use mathlib.Core.Bool.{Bool, true, _||_, or-true}
 use mathlib.Core.List.{List, [], _∷_, List·Memᴰ, List·Memᴰ·head, List·Memᴰ·tail}
-use lib.Dec.{leb, ltb}
+use lib.Dec.{ltb}
 use lib.IntN.{ℤ}
 use lib.ListN.{length, drop, take}
 use Rattle.masks.proofs.Choice.{impossible, same-test, or-cases}
 use Rattle.literals.specs.declared.Lits.{Lits}
 use Rattle.literals.specs.Literal.{size}
 use Rattle.rules.specs.declared.WcnfHead.{WcnfHead}
-use Rattle.rules.specs.declared.Refusal.the-variants.{BadText, BadLiterals, WeightAtTop}
+use Rattle.rules.specs.declared.Refusal.the-variants.{BadText, BadLiterals}
 use Rattle.rules.specs.declared.Judged.{Judged}
 use Rattle.rules.specs.declared.Judged.the-variants.{Fine, Refused}
 use Rattle.rules.specs.Refusals.{refuse}
@@ -61,11 +61,11 @@ figured s f held is =
     }
 
 -- and so is its table
-pub form-words : (s : List ℕ) (f : Form) → Held f → s ≡ formText f → wcnfWords s ≡ wordsOfClauses (clausesSaid (f .lines))
+pub form-words : (s : List ℕ) (f : Form) → Held f → s ≡ formText f → wcnfWords s ≡ wordsOfClauses (f .header .top) (clausesSaid (f .lines))
 unfolding wcnfWords
 form-words s f held is =
     let x = figured s f held is in
-    rw (x .header) (words-of-clauses (f .header .clauses) s (x .next) ∙ ap wordsOfClauses (x .said))
+    rw (x .header) (words-of-clauses (f .header .clauses) (f .header .top) s (x .next) ∙ ap (wordsOfClauses (f .header .top)) (x .said))
 
 -- ---- texts that differ only so
 
@@ -91,14 +91,13 @@ module _ (f g : Form) (p : Held f) (q : Held g) (only : DifferOnly f g) where
       record {
         variables = f .header .variables;
         clauses = f .header .clauses;
-        top-here = f .header .top;
-        top-there = g .header .top;
+        top = f .header .top;
         next-here = x .next;
         next-there = y .next;
         line-here = 1 + length (f .comments);
         line-there = 1 + length (g .comments);
         here = x .header;
-        there = rw (only .variables, count) (y .header);
+        there = rw (only .variables, count, only .top) (y .header);
         same =
             subst (λ (cs : List (ℕ × List ℤ)). SameClauses cs (clausesAt (f .header .clauses) (formText g) (y .next))) (sym (x .said))
             (subst (SameClauses (clausesSaid (f .lines))) (sym (ap (λ (m : ℕ). clausesAt m (formText g) (y .next)) count ∙ y .said)) (only .clauses));
@@ -139,22 +138,21 @@ bad-same variables ls ms same =
     ap₂ (λ (a : Bool) (l : Lits). a || badLits variables l)
     (same-test (above-part variables ls ms (same .there)) (above-part variables ms ls (same .back))) (members-same ls ms same)
 
-faults-same : {cs ds : List (ℕ × List ℤ)} (i variables top : ℕ) (after : Judged) → SameClauses cs ds
-    → faultsFirst i variables top cs after ≡ faultsFirst i variables top ds after
+faults-same : {cs ds : List (ℕ × List ℤ)} (i variables : ℕ) (after : Judged) → SameClauses cs ds
+    → faultsFirst i variables cs after ≡ faultsFirst i variables ds after
 unfolding faultsFirst
-faults-same i variables top after none = refl
-faults-same i variables top after (next w ls ms same rest) =
-    ap₂ (λ (a : Bool) (j : Judged). refuse a (BadLiterals i) (refuse (leb top w) (WeightAtTop i) j)) (bad-same variables ls ms same)
-    (faults-same (suc i) variables top after rest)
+faults-same i variables after none = refl
+faults-same i variables after (next w ls ms same rest) =
+    ap₂ (λ (a : Bool) (j : Judged). refuse a (BadLiterals i) j) (bad-same variables ls ms same)
+    (faults-same (suc i) variables after rest)
 
--- where top is the same too, one is accepted where the other is, and refused as the other is
-pub same-judged : (f g : Form) → Held f → Held g → DifferOnly f g → f .header .top ≡ g .header .top
-    → (most room : ℕ) → wcnfReadWhy most (formText f) room ≡ wcnfReadWhy most (formText g) room
-same-judged f g p q only top most room =
+-- one is accepted where the other is, and refused as the other is
+pub same-judged : (f g : Form) → Held f → Held g → DifferOnly f g → (most room : ℕ) → wcnfReadWhy most (formText f) room ≡ wcnfReadWhy most (formText g) room
+same-judged f g p q only most room =
     let count = as-many f g p q only in
     whole-judged (formText f) most room f p refl
-    ∙ rw (only .variables, count, top)
-    (ap (figuresFirst most room (g .header)) (faults-same 0 (g .header .variables) (g .header .top) Fine (only .clauses)))
+    ∙ rw (only .variables, count)
+    (ap (figuresFirst most room (g .header)) (faults-same 0 (g .header .variables) Fine (only .clauses)))
     ∙ sym (whole-judged (formText g) most room g q refl)
 
 -- ---- an accepted text is of the form

@@ -1,13 +1,14 @@
--- What is written of an admissible table is read back: it is a text of the form, with one space in each gap, that says of each row its weight and its literals.
--- No clause has a fault, since each weight is below the sum of all and one more.
+-- What is written of an admissible table is read back: it is a text of the form, with one space in each gap, that says of each row its weight and its literals,
+-- and of a hard row top. Each soft weight is below the sum of all and one more, so that the hard rows alone are read as hard.
 use Prim.Native.Nat.{ℕ, zero, suc, _+_, _*_, _^_, _<_, _≤_}
 use mathlib.Core.Path.{_≡_, refl, sym, ap, ap₂, _∙_}
 use mathlib.Core.Bool.{Bool, true, false, cond}
 use mathlib.Core.List.{List, [], _∷_, _++_, append-assoc, append-nil}
 use native.Mathlib.Nat.{add-zero, lt-of-lt-of-le}
 use native.Mathlib.Omega.{arith}
-use borrow.Author.Tests.{lt-ltb, le-ltb, lt-leb}
+use borrow.Author.Tests.{eqb-true, eqb-false, lt-ltb, le-ltb, le-leb, lt-leb}
 use lib.Bits.{bitAnd}
+use lib.Dec.{eqb}
 use lib.IntN.{ℤ, pos, negsuc}
 use lib.ListN.{length, drop}
 use lib.Pow.{pow-mono}
@@ -21,10 +22,10 @@ use Rattle.rules.specs.declared.Row.{Row}
 use Rattle.rules.specs.declared.WcnfRead.{WcnfRead}
 use Rattle.rules.specs.declared.Refusal.the-variants.{NoRoom}
 use Rattle.rules.specs.declared.Judged.the-variants.{Fine, Refused}
-use Rattle.rules.specs.Table.{rowWords, mostRows, rowOf, rowCount, rowWordsOf, newRow, badLits, tableWhy}
+use Rattle.rules.specs.Table.{rowWords, mostRows, hardMark, isHard, rowOf, rowCount, rowWordsOf, badLits, tableWhy}
 use Rattle.rules.specs.Text.{bytes, lineFeed, space, minus, digitZero, mostDigits, numberText, textWhy}
 use Rattle.rules.specs.Wcnf.{topOf, spacedLiteral, spacedLits, clauseText, clausesText, wcnfText}
-use Rattle.rules.specs.WcnfReader.{litsOfMembers, wcnfReadWhy, wcnfWords, wcnfRead, wcnfTable}
+use Rattle.rules.specs.WcnfReader.{litsOfMembers, clauseRow, wcnfReadWhy, wcnfWords, wcnfRead, wcnfTable}
 use Rattle.rules.specs.Wcnf.{wcnfWriteWhy}
 use Rattle.rules.proofs.Admissible.{RowFine, TableFine, table-fine}
 use Rattle.rules.proofs.Judging.{order-fine, words-fine}
@@ -86,13 +87,17 @@ spaced-held (suc n) v l small = go (has (l .positive) v) (has (l .negative) v) (
     go false true ih = (record { some = omega arith; digits = omega arith }, ih)
     go false false ih = ih
 
-unfoldable pub lineOf : Row → ClauseLine
-lineOf row = record { weight = row .weight; literals = spaced (membersOf 0 mostVariables (row .lits)); last = 0 }
+-- what stands for its weight
+abbrev lineWeight : ℕ → Row → ℕ
+lineWeight top row = cond (isHard row) top (row .weight)
 
-clause-written : (row : Row) (rest : List ℕ) → clauseText row ++ rest ≡ clauseBytes (lineOf row) ++ (lineFeed ∷ rest)
+unfoldable pub lineOf : ℕ → Row → ClauseLine
+lineOf top row = record { weight = lineWeight top row; literals = spaced (membersOf 0 mostVariables (row .lits)); last = 0 }
+
+clause-written : (top : ℕ) (row : Row) (rest : List ℕ) → clauseText top row ++ rest ≡ clauseBytes (lineOf top row) ++ (lineFeed ∷ rest)
 unfolding clauseText clauseBytes lineOf bytes
-clause-written row rest =
-    let w = numberText (row .weight) in
+clause-written top row rest =
+    let w = numberText (lineWeight top row) in
     let l = spacedLits 0 mostVariables (row .lits) in
     append-assoc w (l ++ (space ∷ digitZero ∷ lineFeed ∷ [])) rest
     ∙ ap (λ (x : List ℕ). w ++ x)
@@ -103,30 +108,30 @@ clause-written row rest =
 
 -- ---- the lines of a table from row i on
 
-unfoldable pub linesOf : ℕ → ℕ → List ℕ → List ClauseLine
-linesOf zero i table = []
-linesOf (suc d) i table = lineOf (rowOf table i) ∷ linesOf d (suc i) table
+unfoldable pub linesOf : ℕ → ℕ → ℕ → List ℕ → List ClauseLine
+linesOf top zero i table = []
+linesOf top (suc d) i table = lineOf top (rowOf table i) ∷ linesOf top d (suc i) table
 
-lines-long : (d i : ℕ) (table : List ℕ) → length (linesOf d i table) ≡ d
+lines-long : (top d i : ℕ) (table : List ℕ) → length (linesOf top d i table) ≡ d
 unfolding linesOf
-lines-long zero i table = refl
-lines-long (suc d) i table = ap suc (lines-long d (suc i) table)
+lines-long top zero i table = refl
+lines-long top (suc d) i table = ap suc (lines-long top d (suc i) table)
 
-clauses-split : (table : List ℕ) (d i : ℕ) → clausesText table (i + d) ≡ clausesText table i ++ linesText (linesOf d i table)
+clauses-split : (top : ℕ) (table : List ℕ) (d i : ℕ) → clausesText top table (i + d) ≡ clausesText top table i ++ linesText (linesOf top d i table)
 unfolding clausesText linesText linesOf
-clauses-split table zero i = rw (add-zero i, append-nil (clausesText table i))
-clauses-split table (suc d) i =
+clauses-split top table zero i = rw (add-zero i, append-nil (clausesText top table i))
+clauses-split top table (suc d) i =
     let p : i + suc d ≡ suc i + d = omega arith in
     let row = rowOf table i in
-    let rest = linesText (linesOf d (suc i) table) in
+    let rest = linesText (linesOf top d (suc i) table) in
     rw p
-    (clauses-split table d (suc i)
-    ∙ append-assoc (clausesText table i) (clauseText row) rest
-    ∙ ap (λ (x : List ℕ). clausesText table i ++ x) (clause-written row rest))
+    (clauses-split top table d (suc i)
+    ∙ append-assoc (clausesText top table i) (clauseText top row) rest
+    ∙ ap (λ (x : List ℕ). clausesText top table i ++ x) (clause-written top row rest))
 
-clauses-all : (table : List ℕ) (m : ℕ) → clausesText table m ≡ linesText (linesOf m 0 table)
+clauses-all : (top : ℕ) (table : List ℕ) (m : ℕ) → clausesText top table m ≡ linesText (linesOf top m 0 table)
 unfolding clausesText
-clauses-all table m = let p : m ≡ 0 + m = omega arith in ap (clausesText table) p ∙ clauses-split table m 0
+clauses-all top table m = let p : m ≡ 0 + m = omega arith in ap (clausesText top table) p ∙ clauses-split top table m 0
 
 -- ---- the text
 
@@ -143,7 +148,7 @@ headerOfTable n table =
     }
 
 abbrev pub writtenForm : ℕ → List ℕ → Form
-writtenForm n table = record { comments = []; header = headerOfTable n table; lines = linesOf (rowCount table) 0 table }
+writtenForm n table = record { comments = []; header = headerOfTable n table; lines = linesOf (topOf table) (rowCount table) 0 table }
 
 -- the writer's text is of the form
 pub written-form : (n : ℕ) (table : List ℕ) → wcnfText n table ≡ formText (writtenForm n table)
@@ -152,9 +157,9 @@ written-form n table =
     let v = numberText n in
     let m = numberText (rowCount table) in
     let t = numberText (topOf table) in
-    let rest = linesText (linesOf (rowCount table) 0 table) in
+    let rest = linesText (linesOf (topOf table) (rowCount table) 0 table) in
     ap (λ (x : List ℕ). pCode ∷ space ∷ (wcnfName ++ (space ∷ (v ++ (space ∷ (m ++ (space ∷ (t ++ (lineFeed ∷ x)))))))))
-    (clauses-all table (rowCount table))
+    (clauses-all (topOf table) table (rowCount table))
     ∙ ap (λ (x : List ℕ). pCode ∷ space ∷ (wcnfName ++ (space ∷ x)))
     (sym (append-assoc v (space ∷ (m ++ (space ∷ t))) (lineFeed ∷ rest)
     ∙ ap (λ (x : List ℕ). v ++ (space ∷ x)) (append-assoc m (space ∷ t) (lineFeed ∷ rest))))
@@ -166,12 +171,39 @@ record Faultless (n top : ℕ) (row : Row) : Type 0 where
   pub held : Two.Held (row .lits)
   pub parted : bitAnd (row .lits .positive) (row .lits .negative) ≡ 0
   pub good : badLits n (row .lits) ≡ false
-  pub light : row .weight < 10 ^ mostDigits
-  pub under : row .weight < top
+  pub light : lineWeight top row < 10 ^ mostDigits
+  pub back : clauseRow top (lineWeight top row) (row .lits) ≡ row
 
-row-faultless : (n top : ℕ) (row : Row) → n ≤ mostVariables → RowFine n row → row .weight < top → Faultless n top row
+-- a hard row is read back by its top, and a soft one by its weight, which is below top
+row-back : (n top : ℕ) (row : Row) → RowFine n row → row .weight < top → clauseRow top (lineWeight top row) (row .lits) ≡ row
+unfolding isHard
+row-back n top row f under = go (eqb (row .mark) hardMark) refl
+  where
+    zero-of : (m : ℕ) → m ≤ hardMark → (m ≡ hardMark → ⊥) → 0 ≡ m
+    zero-of zero l h = refl
+    zero-of (suc zero) l h = absurd (h refl)
+    zero-of (suc (suc m)) l h = absurd (omega arith)
+
+    go : (b : Bool) → eqb (row .mark) hardMark ≡ b → clauseRow top (cond (eqb (row .mark) hardMark) top (row .weight)) (row .lits) ≡ row
+    go true e =
+        let hard = eqb-true (row .mark) hardMark e in
+        let light = f .weightless e in
+        rw (e, le-leb top top (omega arith)) (λ t. record { lits = row .lits; weight = sym light t; mark = sym hard t })
+    go false e =
+        let apart = eqb-false (row .mark) hardMark e in
+        let soft : 0 ≡ row .mark = zero-of (row .mark) (f .mark) apart in
+        rw (e, lt-leb top (row .weight) under) (λ t. record { lits = row .lits; weight = row .weight; mark = soft t })
+
+line-light : (n top : ℕ) (row : Row) → RowFine n row → top < 10 ^ mostDigits → lineWeight top row < 10 ^ mostDigits
+line-light n top row f small = go (isHard row)
+  where
+    go : (b : Bool) → cond b top (row .weight) < 10 ^ mostDigits
+    go true = small
+    go false = omega (arith, f .light)
+
+row-faultless : (n top : ℕ) (row : Row) → n ≤ mostVariables → RowFine n row → top < 10 ^ mostDigits → row .weight < top → Faultless n top row
 unfolding badLits none
-row-faultless n top row h f under =
+row-faultless n top row h f small under =
     record {
       held =
           record {
@@ -180,8 +212,8 @@ row-faultless n top row h f under =
           };
       parted = f .apart;
       good = rw (f .apart, f .positive, f .negative);
-      light = omega (arith, f .light);
-      under = under;
+      light = line-light n top row f small;
+      back = row-back n top row f under;
     }
 
 under-top : (table : List ℕ) (i : ℕ) → i < rowCount table → rowOf table i .weight < topOf table
@@ -197,9 +229,9 @@ module _ (n top : ℕ) (table : List ℕ) where
   AllFaultless d i = (j : ℕ) → i ≤ j → j < i + d → Faultless n top (rowOf table j)
 
   abbrev saidFrom : ℕ → ℕ → List (ℕ × List ℤ)
-  saidFrom d i = clausesSaid (linesOf d i table)
+  saidFrom d i = clausesSaid (linesOf top d i table)
 
-  lines-held : (d i : ℕ) → AllFaultless d i → Each ClauseHeld (linesOf d i table)
+  lines-held : (d i : ℕ) → AllFaultless d i → Each ClauseHeld (linesOf top d i table)
   unfolding linesOf lineOf
   lines-held zero i w = tt
   lines-held (suc d) i w = (
@@ -207,7 +239,7 @@ module _ (n top : ℕ) (table : List ℕ) where
     lines-held d (suc i) (λ j low high. w j (omega arith) (omega arith)),
   )
 
-  none-faulted : (d i k : ℕ) → AllFaultless d i → faultsFirst k n top (saidFrom d i) Fine ≡ Fine
+  none-faulted : (d i k : ℕ) → AllFaultless d i → faultsFirst k n (saidFrom d i) Fine ≡ Fine
   unfolding linesOf lineOf clausesSaid faultsFirst
   none-faulted zero i k w = refl
   none-faulted (suc d) i k w =
@@ -217,18 +249,18 @@ module _ (n top : ℕ) (table : List ℕ) where
         spaced-said (membersOf 0 mostVariables (row .lits)),
         bad-back n (row .lits) (f .held) (f .parted),
         f .good,
-        lt-leb top (row .weight) (f .under),
       )
       (none-faulted d (suc i) (suc k) (λ j low high. w j (omega arith) (omega arith)))
 
-  said-words : (d i : ℕ) → AllFaultless d i → wordsOfClauses (saidFrom d i) ≡ wordsFrom d i table
+  said-words : (d i : ℕ) → AllFaultless d i → wordsOfClauses top (saidFrom d i) ≡ wordsFrom d i table
   unfolding linesOf lineOf clausesSaid wordsOfClauses wordsFrom
   said-words zero i w = refl
   said-words (suc d) i w =
       let row = rowOf table i in
       let f = w i (omega arith) (omega arith) in
-      ap₂ (λ (l : Lits) (words : List ℕ). rowWordsOf (newRow l (row .weight)) ++ words)
-      (ap litsOfMembers (spaced-said (membersOf 0 mostVariables (row .lits))) ∙ lits-back (row .lits) (f .held) (f .parted))
+      let lits = ap litsOfMembers (spaced-said (membersOf 0 mostVariables (row .lits))) ∙ lits-back (row .lits) (f .held) (f .parted) in
+      ap₂ (λ (r : Row) (words : List ℕ). rowWordsOf r ++ words)
+      (ap (clauseRow top (lineWeight top row)) lits ∙ f .back)
       (said-words d (suc i) (λ j low high. w j (omega arith) (omega arith)))
 
 module _ (n : ℕ) (table : List ℕ) (ok : tableWhy n table ≡ Fine) where
@@ -244,7 +276,7 @@ module _ (n : ℕ) (table : List ℕ) (ok : tableWhy n table ≡ Fine) where
   all-faultless : AllFaultless n (topOf table) table (rowCount table) 0
   all-faultless j low high =
       let l : j < rowCount table = omega arith in
-      row-faultless n (topOf table) (rowOf table j) (fine .variables) (fine .rows j l) (under-top table j l)
+      row-faultless n (topOf table) (rowOf table j) (fine .variables) (fine .rows j l) (top-small n table fine) (under-top table j l)
 
   pub written-held : Held f
   written-held =
@@ -257,7 +289,7 @@ module _ (n : ℕ) (table : List ℕ) (ok : tableWhy n table ≡ Fine) where
               top-digits = top-small n table fine;
             };
         lines = lines-held n (topOf table) table (rowCount table) 0 all-faultless;
-        whole = lines-long (rowCount table) 0 table;
+        whole = lines-long (topOf table) (rowCount table) 0 table;
       }
 
   judged : (room : ℕ) → wcnfReadWhy mostRows text room ≡ figuresFirst mostRows room (headerOfTable n table) Fine

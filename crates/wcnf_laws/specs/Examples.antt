@@ -3,17 +3,22 @@ use Prim.Native.Nat.{ℕ}
 use Prim.Native.String.{String}
 use mathlib.Core.Bool.{true, false}
 use mathlib.Core.List.{List, [], _∷_, _++_}
-use Rattle.rules.specs.Table.{mostRows}
+use Rattle.literals.specs.declared.Lits.{Lits}
+use Rattle.rules.specs.Table.{mostRows, hardRow, rowWordsOf}
 use Rattle.rules.specs.Walk.{walked, foundBy}
 use Rattle.rules.specs.Text.{bytes}
 use Rattle.rules.specs.Wcnf.{wcnfText}
 use Rattle.rules.specs.WcnfReader.{wcnfReadWhy, wcnfWords}
 use Rattle.rules.specs.WcnfProgram.{wcnfFoundText, wcnfAnswer}
-use Rattle.rules.specs.Examples.{Example, example, x, not-x, row, refusal, p8}
+use Rattle.rules.specs.Examples.{Example, example, x, not-x, all, row, refusal, p8}
 
 -- what the reader answers, given room
 abbrev wcnf : String → List ℕ
 wcnf text = refusal (wcnfReadWhy mostRows (bytes text) 10000)
+
+-- a hard row's words
+abbrev hard : List Lits → List ℕ
+hard ls = rowWordsOf (hardRow (all ls))
 
 abbrev pub examples : List Example
 examples =
@@ -36,10 +41,16 @@ examples =
     (wcnf "p wcnf 1 1 9\nc\n1 0\n" ++ (wcnf "p wcnf 1 1 9\n1 10000000000 0\n" ++ (wcnf "p wcnf 1 1 9\n1 -0\n" ++ (wcnf "p wcnf 1 1 9\n1 01 0\n"
     ++ (wcnf "p wcnf 1 1 9\n1 +1 0\n" ++ (wcnf "p wcnf 1 1 9\n1 0 \n" ++ (wcnf "p wcnf 1 1 9\n1 0 1\n" ++ wcnf "p wcnf 1 1 9\n1 0")))))))
     (20 ∷ 2 ∷ 20 ∷ 2 ∷ 20 ∷ 2 ∷ 20 ∷ 2 ∷ 20 ∷ 2 ∷ 20 ∷ 2 ∷ 20 ∷ 2 ∷ 20 ∷ 2 ∷ [])
-    ∷ example "above the count; both ways; at top; 5 before 21; 20 before 5; clause 1's 5 before line 4's 20; a surplus line; a line missing"
+    ∷ example "above the count; both ways; at top, which is read; 5 at top; 20 before 5; clause 1's 5 before line 4's 20; a surplus line; a line missing"
     (wcnf "p wcnf 1 1 9\n1 2 0\n" ++ (wcnf "p wcnf 1 1 9\n1 1 -1 0\n" ++ (wcnf "p wcnf 1 2 9\n1 0\n9 0\n" ++ (wcnf "p wcnf 1 1 1\n1 2 0\n"
     ++ (wcnf "p wcnf 1 1 9\n1 2 0 \n" ++ (wcnf "p wcnf 1 3 9\n1 0\n1 2 0\n1\n" ++ (wcnf "p wcnf 1 1 9\n1 0\n\n" ++ wcnf "p wcnf 1 2 9\n1 0\n")))))))
-    (5 ∷ 0 ∷ 5 ∷ 0 ∷ 21 ∷ 1 ∷ 5 ∷ 0 ∷ 20 ∷ 2 ∷ 5 ∷ 1 ∷ 20 ∷ 3 ∷ 20 ∷ 3 ∷ [])
+    (5 ∷ 0 ∷ 5 ∷ 0 ∷ 5 ∷ 0 ∷ 20 ∷ 2 ∷ 5 ∷ 1 ∷ 20 ∷ 3 ∷ 20 ∷ 3 ∷ [])
+    ∷ example "a weight below top is soft; at top and above it is hard, and weighs 0; top 0 makes all hard"
+    (wcnfWords (bytes "p wcnf 2 3 9\n8 1 0\n9 -1 2 0\n1000 0\n") ++ wcnfWords (bytes "p wcnf 1 1 0\n0 1 0\n"))
+    ((row (x 1 ∷ []) 8 ++ (hard (not-x 1 ∷ x 2 ∷ []) ++ hard [])) ++ hard (x 1 ∷ []))
+    ∷ example "a hard row written with top, and read back"
+    (wcnfText 1 (row (x 1 ∷ []) 3 ++ hard (not-x 1 ∷ [])) ++ wcnfWords (wcnfText 1 (row (x 1 ∷ []) 3 ++ hard (not-x 1 ∷ []))))
+    (bytes "p wcnf 1 2 4\n3 1 0\n4 -1 0\n" ++ (row (x 1 ∷ []) 3 ++ hard (not-x 1 ∷ [])))
     ∷ example "P8's table written, with top the sum and one"
     (wcnfText 2 p8)
     (bytes "p wcnf 2 2 3\n1 1 2 0\n1 -2 0\n")
@@ -52,7 +63,10 @@ examples =
     ∷ example "stopped with a reading, and with none"
     (wcnfFoundText 3 (foundBy (walked 10 1 true 6 true)) ++ wcnfFoundText 3 (foundBy (walked 2 6 false 0 true)))
     (bytes "c nodes 10\no 1\ns UNKNOWN\nv -1 2 3\nc nodes 2\ns UNKNOWN\n")
+    ∷ example "hard clauses that clash, and one against a soft clause"
+    (wcnfAnswer (bytes "p wcnf 1 2 9\n9 1 0\n9 -1 0\n") ++ wcnfAnswer (bytes "p wcnf 1 2 9\n8 1 0\n9 -1 0\n"))
+    (bytes "c nodes 3\ns UNSATISFIABLE\nc nodes 3\no 8\ns OPTIMUM FOUND\nv -1\n")
     ∷ example "refused by the reader, and by load"
-    (wcnfAnswer (bytes "p wcnf 1 2 9\n1 1 0\n9 1 0\n") ++ wcnfAnswer (bytes "p wcnf 1 2 9\n1 1 0\n0 1 0\n"))
-    (bytes "c refused: number 21, place 1\ns UNKNOWN\nc refused: number 6, place 1\ns UNKNOWN\n")
+    (wcnfAnswer (bytes "p wcnf 1 2 9\n1 1 0\n9 2 0\n") ++ wcnfAnswer (bytes "p wcnf 1 2 9\n1 1 0\n0 1 0\n"))
+    (bytes "c refused: number 5, place 1\ns UNKNOWN\nc refused: number 6, place 1\ns UNKNOWN\n")
     ∷ []

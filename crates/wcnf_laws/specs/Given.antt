@@ -1,6 +1,6 @@
 -- Document 02, C-11, refusal by refusal: "A broken, missing or surplus line is 20 with its line. After the header come 1, 2 and 4 by its figures; then line by
--- line 20, 5, 21, place being the clause from 0 for the last two." Each way in which a text is judged, with all that it needs; of clauses behind the one that
--- is refused nothing is said.
+-- line 20, 5, [..] place being the clause from 0 for the last"; C-16 "drops 21". Each way in which a text is judged, with all that it needs; of clauses behind
+-- the one that is refused nothing is said.
 use Prim.Native.Nat.{ℕ, _+_, _*_, _≤_, _<_}
 use mathlib.Core.Path.{_≡_}
 use mathlib.Core.Logic.{_⊎_}
@@ -9,7 +9,7 @@ use lib.Dec.{ltb}
 use lib.ListN.{length}
 use Rattle.literals.specs.Literal.{mostVariables}
 use Rattle.rules.specs.declared.Refusal.{Refusal}
-use Rattle.rules.specs.declared.Refusal.the-variants.{TooManyVariables, BadTable, NoRoom, BadLiterals, BadText, WeightAtTop}
+use Rattle.rules.specs.declared.Refusal.the-variants.{TooManyVariables, BadTable, NoRoom, BadLiterals, BadText}
 use Rattle.rules.specs.declared.Judged.{Judged}
 use Rattle.rules.specs.declared.Judged.the-variants.{Fine, Refused}
 use Rattle.rules.specs.Refusals.{_when_, asIn, firstDue}
@@ -35,13 +35,12 @@ pub record Begins (s : List ℕ) (comments : List (List ℕ)) (h : HeaderLine) (
   pub alike : firstLines (length comments + (length lines + 1)) s
       ≡ firstLines (length comments + (length lines + 1)) (underComments comments (headerBytes h ++ (lineFeed ∷ linesText lines)))
 
--- neither 5 nor 21 is due: no member above the count, no variable both ways, a weight below top
+-- 5 is not due: no member above the count, no variable both ways
 pub record Faultless (h : HeaderLine) (c : ClauseLine) : Type 0 where
   pub none-above : Above (h .variables) (numbersOf (c .literals)) → ⊥
   pub one-way : BothWays (numbersOf (c .literals)) → ⊥
-  pub under-top : c .weight < h .top
 
--- neither 1, 2 or 4 by the figures, nor 5 or 21 by these clauses
+-- neither 1, 2 or 4 by the figures, nor 5 by these clauses
 pub record NoneDue (most room : ℕ) (h : HeaderLine) (lines : List ClauseLine) : Type 0 where
   pub figures : figuresFirst most room h Fine ≡ Fine
   pub clauses : Each (Faultless h) lines
@@ -60,10 +59,6 @@ pub data Given (s : List ℕ) (most room : ℕ) : Judged → Type 0 where
   badClause : (comments : List (List ℕ)) (h : HeaderLine) (before : List ClauseLine) (c : ClauseLine) → Begins s comments h (before ++ (c ∷ []))
       → NoneDue most room h before → Above (h .variables) (numbersOf (c .literals)) ⊎ BothWays (numbersOf (c .literals))
       → Given s most room (Refused (BadLiterals (length before)))
-  -- 21
-  heavyClause : (comments : List (List ℕ)) (h : HeaderLine) (before : List ClauseLine) (c : ClauseLine) → Begins s comments h (before ++ (c ∷ []))
-      → NoneDue most room h before → (Above (h .variables) (numbersOf (c .literals)) → ⊥) → (BothWays (numbersOf (c .literals)) → ⊥) → h .top ≤ c .weight
-      → Given s most room (Refused (WeightAtTop (length before)))
   -- none
   fine : (f : Form) → Held f → s ≡ formText f → NoneDue most room (f .header) (f .lines) → Given s most room Fine
 

@@ -14,18 +14,17 @@ unfoldable pub clausesAt : ℕ → List ℕ → ℕ → List (ℕ × List ℤ)
 clausesAt zero s at = []
 clausesAt (suc m) s at = onClause s at [] (λ w ls next. (w, ls) ∷ clausesAt m s next)
 
--- Two texts say the same: the same figures but for top, and the same clauses. Comments and spaces are none of it.
+-- Two texts say the same: the same figures and the same clauses. Comments and spaces are none of it.
 pub record SaysSame (s t : List ℕ) : Type 0 where
   pub variables : ℕ
   pub clauses : ℕ
-  pub top-here : ℕ
-  pub top-there : ℕ
+  pub top : ℕ
   pub next-here : ℕ
   pub next-there : ℕ
   pub line-here : ℕ
   pub line-there : ℕ
-  pub here : headerOf s ≡ WcnfHead.Figures variables clauses top-here next-here line-here
-  pub there : headerOf t ≡ WcnfHead.Figures variables clauses top-there next-there line-there
+  pub here : headerOf s ≡ WcnfHead.Figures variables clauses top next-here line-here
+  pub there : headerOf t ≡ WcnfHead.Figures variables clauses top next-there line-there
   pub same : SameClauses (clausesAt clauses s next-here) (clausesAt clauses t next-there)
 
 -- where both are accepted, they are answered alike and leave the same words

@@ -38,5 +38,5 @@ found-length n f h =
     rw (found-is n f, length-append k (w ++ (s ++ v)), length-append w (s ++ v), length-append s v) (omega arith)
 
 pub outcome-length : (o : Outcome) → Counted o → length (wcnfOutcomeText o) ≤ mostAnswer
-outcome-length (Outcome.Searched n root f) h = found-length n f h
+outcome-length (Outcome.Searched n root f) h = found-length n f (h .0)
 outcome-length (Outcome.Refused r) h = refusal-length r

@@ -19,7 +19,7 @@ use Rattle.rules.specs.WcnfProgram.{statementText, wcnfRefusalText, bestWeightT
 use Rattle.text_laws.specs.Pieces.{lineText}
 use Rattle.text_laws.proofs.Pieces.{line-length}
 use Rattle.spaced_written.proofs.Pieces.{spaced-length}
-use Rattle.wcnf_lines.specs.Keys.{refusedKey, placeKey, unknownLine, foundLine, nodesKey, weightKey, valuesKey}
+use Rattle.wcnf_lines.specs.Keys.{refusedKey, placeKey, unknownLine, foundLine, impossibleLine, nodesKey, weightKey, valuesKey}
 use Rattle.wcnf_lines.specs.Lengths.{mostWeightLine, mostStatementLine, mostValuesLine}
 
 -- ---- the lines by case
@@ -51,6 +51,10 @@ pub statement-stopped : (s : Status) → s ≡ Status.Stopped → statementText 
 unfolding line bytes
 statement-stopped s e = rw e
 
+pub statement-impossible : (s : Status) → s ≡ Status.Impossible → statementText s ≡ impossibleLine
+unfolding line bytes
+statement-impossible s e = rw e
+
 pub values-none : (n : ℕ) (b : Best) → b ≡ Best.Nothing → valuesText n b ≡ []
 values-none n b e = rw e
 
@@ -75,6 +79,7 @@ pub statement-length : (s : Status) → length (statementText s) ≤ mostStateme
 unfolding line bytes
 statement-length Status.Done = omega arith
 statement-length Status.Stopped = omega arith
+statement-length Status.Impossible = omega arith
 
 pub values-length : (n : ℕ) (b : Best) → n ≤ mostVariables → length (valuesText n b) ≤ mostValuesLine
 unfolding line bytes

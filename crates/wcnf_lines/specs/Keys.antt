@@ -14,6 +14,9 @@ unknownLine = 115 ∷ 32 ∷ 85 ∷ 78 ∷ 75 ∷ 78 ∷ 79 ∷ 87 ∷ 78 ∷ 10
 abbrev pub foundLine : List ℕ
 foundLine = 115 ∷ 32 ∷ 79 ∷ 80 ∷ 84 ∷ 73 ∷ 77 ∷ 85 ∷ 77 ∷ 32 ∷ 70 ∷ 79 ∷ 85 ∷ 78 ∷ 68 ∷ 10 ∷ []
 
+abbrev pub impossibleLine : List ℕ
+impossibleLine = 115 ∷ 32 ∷ 85 ∷ 78 ∷ 83 ∷ 65 ∷ 84 ∷ 73 ∷ 83 ∷ 70 ∷ 73 ∷ 65 ∷ 66 ∷ 76 ∷ 69 ∷ 10 ∷ []
+
 abbrev pub nodesKey : List ℕ
 nodesKey = 99 ∷ 32 ∷ 110 ∷ 111 ∷ 100 ∷ 101 ∷ 115 ∷ 32 ∷ []
 

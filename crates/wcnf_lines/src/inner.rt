@@ -42,6 +42,7 @@ fn put_statement(out: &mut [u8], at: usize, status: Status) -> usize
     match status {
         Status::Done => inner::put_key(out, at, b"s OPTIMUM FOUND\n"),
         Status::Stopped => inner::put_key(out, at, b"s UNKNOWN\n"),
+        Status::Impossible => inner::put_key(out, at, b"s UNSATISFIABLE\n"),
     }
 }
 

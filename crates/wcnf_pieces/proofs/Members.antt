@@ -18,11 +18,10 @@ use Rattle.literals.specs.Lits.{noLits, together}
 use Rattle.literals.proofs.Opposites.{literal-sized, opposite-literal}
 use Rattle.literals.proofs.Offers.{offered-fine, offered-refused}
 use Rattle.literals.proofs.TwoMasks.{lits-other, together-none, none-together, together-assoc}
-use Rattle.rules.specs.declared.Row.{Row}
 use Rattle.rules.specs.declared.Parsed.{Parsed}
 use Rattle.rules.specs.Text.{lineFeed, minus}
 use Rattle.rules.specs.Reader.{numberAt, onNumber}
-use Rattle.rules.specs.Table.{newRow, badLits}
+use Rattle.rules.specs.Table.{badLits}
 use Rattle.rules.specs.WcnfReader.{spaceRun, MembersRead, members, brokenLine, withMember, onSigned, membersFrom, onMembers}
 use Rattle.rules.specs.WcnfReader.{litsOfMembers, someAbove, badMembers}
 use Rattle.wcnf_pieces.specs.declared.SignedRead.{SignedRead}
@@ -218,7 +217,7 @@ module _ (variables : ℕ) (s : List ℕ) (at : ℕ) where
 
   module _ (w next : ℕ) (e : numberAt s at ≡ Parsed.Number w next) where
     abbrev made : MembersRead → ClauseRead
-    made r = onMembers r ClauseRead.Broken (λ ls end. ClauseRead.Clause (newRow (litsOfMembers ls) w) (badMembers variables ls) end)
+    made r = onMembers r ClauseRead.Broken (λ ls end. ClauseRead.Clause w (litsOfMembers ls) (badMembers variables ls) end)
 
     pub no-members : gathered variables noLits false (membersFrom (length s) s next) ≡ Gathered.Broken → clauseAt variables s at ≡ ClauseRead.Broken
     unfolding clauseAt
@@ -228,18 +227,17 @@ module _ (variables : ℕ) (s : List ℕ) (at : ℕ) where
         go (members ls end) h = impossible (cc)
         go brokenLine h = refl
 
-    pub clause-is : (lits : Lits) (above : Bool) (end : ℕ) (row : Row) (bad : Bool)
+    pub clause-is : (lits : Lits) (above : Bool) (end : ℕ) (bad : Bool)
         → gathered variables noLits false (membersFrom (length s) s next) ≡ Gathered.Members lits above end
-        → row ≡ newRow lits w → bad ≡ badLits variables lits
-        → ClauseRead.Clause row (above || bad) end ≡ clauseAt variables s at
+        → bad ≡ badLits variables lits → ClauseRead.Clause w lits (above || bad) end ≡ clauseAt variables s at
     unfolding clauseAt badMembers
-    clause-is lits above end row bad g r b = rw e (go (membersFrom (length s) s next) g)
+    clause-is lits above end bad g b = rw e (go (membersFrom (length s) s next) g)
       where
-        go : (m : MembersRead) → gathered variables noLits false m ≡ Gathered.Members lits above end → ClauseRead.Clause row (above || bad) end ≡ made m
+        go : (m : MembersRead) → gathered variables noLits false m ≡ Gathered.Members lits above end → ClauseRead.Clause w lits (above || bad) end ≡ made m
         go (members ls far) h =
             let same : together noLits (litsOfMembers ls) ≡ lits = cc in
             let is : litsOfMembers ls ≡ lits = sym (none-together (litsOfMembers ls)) ∙ same in
             let over : someAbove variables ls ≡ above = cc in
             let there : far ≡ end = cc in
-            rw (r, b, ← is, ← over, ← there)
+            rw (b, ← is, ← over, ← there)
         go brokenLine h = impossible (cc)

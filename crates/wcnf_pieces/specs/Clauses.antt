@@ -8,7 +8,6 @@ use lib.IntN.{ℤ, pos, negsuc, negℤ}
 use Rattle.literals.specs.declared.Lits.{Lits}
 use Rattle.literals.specs.Lits.{together}
 use Rattle.rules.specs.Text.{lineFeed}
-use Rattle.rules.specs.Table.{newRow}
 use Rattle.rules.specs.WcnfReader.{spaceRun, MembersRead, members, brokenLine, onSigned, onClause, litsOfMembers, someAbove, badMembers}
 use Rattle.wcnf_pieces.specs.declared.SignedRead.{SignedRead}
 use Rattle.wcnf_pieces.specs.declared.Gathered.{Gathered}
@@ -42,7 +41,7 @@ abbrev pub gathered : ℕ → Lits → Bool → MembersRead → Gathered
 gathered variables lits above (members ls next) = Gathered.Members (together lits (litsOfMembers ls)) (above || someAbove variables ls) next
 gathered variables lits above brokenLine = Gathered.Broken
 
--- a clause: its row, and whether its literals are bad
+-- a clause: its weight, its literals, and whether these are bad
 unfoldable pub clauseAt : ℕ → List ℕ → ℕ → ClauseRead
 clauseAt variables s at =
-    onClause s at ClauseRead.Broken (λ w ls next. ClauseRead.Clause (newRow (litsOfMembers ls) w) (badMembers variables ls) next)
+    onClause s at ClauseRead.Broken (λ w ls next. ClauseRead.Clause w (litsOfMembers ls) (badMembers variables ls) next)

@@ -13,7 +13,6 @@ use literals::Literal;
 use literals::Lits;
 use literals::Offered;
 use rules::Parsed;
-use rules::Row;
 use values::bad_lits;
 
 // A signed number: a minus stands before a negative one, which is not 0.
@@ -133,6 +132,10 @@ pub fn clause_at(s: &[u8], at: usize, variables: u64) -> ClauseRead
         return ClauseRead::Broken;
     };
     let bad = above | bad_lits(variables, lits);
-    let row = Row::new(lits, weight);
-    ClauseRead::Clause { row, bad, next }
+    ClauseRead::Clause {
+        weight,
+        lits,
+        bad,
+        next,
+    }
 }

@@ -1,7 +1,6 @@
-// A clause of a competition file up to its closing 0, as a row.
-// What is read is judged elsewhere; here a clause says only whether its literals are bad.
+// A clause of a competition file up to its closing 0: its weight and its literals as a set.
+// What is read is judged elsewhere; here a clause says only whether its literals are bad. Whether it is hard, top says, which is not known here.
 use literals::Lits;
-use rules::Row;
 
 mod clauses;
 
@@ -27,8 +26,13 @@ pub enum Gathered {
     Broken,
 }
 
-// A clause as a row, whether its literals are bad, and the place behind its line.
+// A clause by its weight and its literals, whether these are bad, and the place behind its line.
 pub enum ClauseRead {
-    Clause { row: Row, bad: bool, next: usize },
+    Clause {
+        weight: u64,
+        lits: Lits,
+        bad: bool,
+        next: usize,
+    },
     Broken,
 }

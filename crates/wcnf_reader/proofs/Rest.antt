@@ -39,7 +39,7 @@ module _ (most : ℕ) (s : List ℕ) (room n m top next line : ℕ) where
   pub over-room : n ≤ mostVariables → m ≤ most → room < rowWords * m → why ≡ Refused NoRoom
   over-room g h i = rw (le-ltb mostVariables n g, le-ltb most m h, lt-ltb room (rowWords * m) i)
 
-  pub by-clauses : (j : Judged) → n ≤ mostVariables → m ≤ most → rowWords * m ≤ room → j ≡ clausesWhy m 0 n top s next (line + 1) → j ≡ why
+  pub by-clauses : (j : Judged) → n ≤ mostVariables → m ≤ most → rowWords * m ≤ room → j ≡ clausesWhy m 0 n s next (line + 1) → j ≡ why
   by-clauses j g h i e = rw (le-ltb mostVariables n g, le-ltb most m h, le-ltb room (rowWords * m) i) e
 
   -- where all is fine there is room
@@ -69,7 +69,7 @@ module _ (most : ℕ) (s table : List ℕ) (n m top next line : ℕ) (j : Judged
   unfolding readBehind storedBehind
   behind-refused r e = let f = matched why-is e in (rw f, rw f)
 
-  pub behind-fine : j ≡ Fine → (WcnfRead.Table n m ≡ answer) × (sets table 0 (clausesWords m s next) ≡ words)
+  pub behind-fine : j ≡ Fine → (WcnfRead.Table n m ≡ answer) × (sets table 0 (clausesWords m top s next) ≡ words)
   unfolding readBehind storedBehind
   behind-fine e = let f = matched why-is e in (rw f, rw f)
 
@@ -94,8 +94,8 @@ module _ (most : ℕ) (s table : List ℕ) where
         → storedBehind most s table n m top next line ≡ wcnfTable most s table
     unfolding storedBehind wcnfTable wcnfReadWhy wcnfWords
     words-are Fine e =
-        let words = clausesWords m s next in
-        let room : 0 + length words ≤ length table = omega (arith, words-length m s next, fits most s (length table) n m top next line e) in
+        let words = clausesWords m top s next in
+        let room : 0 + length words ≤ length table = omega (arith, words-length m top s next, fits most s (length table) n m top next line e) in
         rw (h, e) (sets-eq words table 0 room ∙ rw (zero-add (length words)))
     words-are (Refused r) e = rw (h, e)
 

@@ -15,4 +15,4 @@ readBehind most s room variables clauses top next line =
 
 unfoldable pub storedBehind : ℕ → List ℕ → List ℕ → ℕ → ℕ → ℕ → ℕ → ℕ → List ℕ
 storedBehind most s table variables clauses top next line =
-    unlessRefused (headerWhy most s (length table) (WcnfHead.Figures variables clauses top next line)) (sets table 0 (clausesWords clauses s next)) table
+    unlessRefused (headerWhy most s (length table) (WcnfHead.Figures variables clauses top next line)) (sets table 0 (clausesWords clauses top s next)) table

@@ -26,10 +26,10 @@ fn read_rest(
     ensures answer { λ r. ⌜ r ≡ readBehind most (now (s .entry)) (length (now (table .entry))) variables clauses top from line ⌝ }
     ensures words { λ _. ⌜ now (table .exit) ≡ storedBehind most (now (s .entry)) (now (table .entry)) variables clauses top from line ⌝ }
 {
-    match clauses::figures_why(most, s, table.len(), variables, clauses, top, from, line) {
+    match clauses::figures_why(most, s, table.len(), variables, clauses, from, line) {
         Judged::Refused(why) => WcnfRead::Refused(why),
         Judged::Fine => {
-            clauses::store_rows(s, from, clauses as usize, table);
+            clauses::store_rows(s, from, clauses as usize, top, table);
             WcnfRead::Table {
                 variables,
                 rows: clauses,

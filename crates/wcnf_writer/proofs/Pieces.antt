@@ -13,34 +13,35 @@ use Rattle.rules.specs.Wcnf.{topOf, spacedLits, clauseText, clausesText, wcnfTe
 use Rattle.text_laws.specs.Pieces.{lineText}
 use Rattle.text_laws.proofs.Pieces.{number-length, line-length}
 use Rattle.spaced_written.proofs.Pieces.{spaced-length}
-use Rattle.wcnf_writer.specs.Pieces.{headerKey, closing, headerText, mostHeader, mostClause}
+use Rattle.wcnf_writer.specs.Pieces.{headerKey, closing, headerText, lineWeight, mostHeader, mostClause}
 
 -- ---- clauses
 
-pub clause-is : (row : Row) → clauseText row ≡ numberText (row .weight) ++ (spacedLits 0 mostVariables (row .lits) ++ closing)
+pub clause-is : (top : ℕ) (row : Row) → clauseText top row ≡ numberText (lineWeight top row) ++ (spacedLits 0 mostVariables (row .lits) ++ closing)
 unfolding clauseText bytes
-clause-is row = refl
+clause-is top row = refl
 
-pub clause-length : (row : Row) → length (clauseText row) ≤ mostClause
-clause-length row =
+pub clause-length : (top : ℕ) (row : Row) → length (clauseText top row) ≤ mostClause
+clause-length top row =
     let lits = spacedLits 0 mostVariables (row .lits) in
-    rw (clause-is row, length-append (numberText (row .weight)) (lits ++ closing), length-append lits closing)
-    (omega (arith, number-length (row .weight), spaced-length mostVariables (row .lits)))
+    rw (clause-is top row, length-append (numberText (lineWeight top row)) (lits ++ closing), length-append lits closing)
+    (omega (arith, number-length (lineWeight top row), spaced-length mostVariables (row .lits)))
 
-pub clauses-none : (table : List ℕ) → clausesText table 0 ≡ []
+pub clauses-none : (top : ℕ) (table : List ℕ) → clausesText top table 0 ≡ []
 unfolding clausesText
-clauses-none table = refl
+clauses-none top table = refl
 
-pub clauses-step : (table : List ℕ) (i : ℕ) → clausesText table (i + 1) ≡ clausesText table i ++ clauseText (rowOf table i)
+pub clauses-step : (top : ℕ) (table : List ℕ) (i : ℕ) → clausesText top table (i + 1) ≡ clausesText top table i ++ clauseText top (rowOf table i)
 unfolding clausesText
-clauses-step table i = rw add-one
+clauses-step top table i = rw add-one
 
-pub clauses-length : (table : List ℕ) (m : ℕ) → length (clausesText table m) ≤ mostClause * m
-clauses-length table zero = rw (clauses-none table) (omega arith)
-clauses-length table (suc m) =
-    let before = clausesText table m in
-    let e : clausesText table (suc m) ≡ before ++ clauseText (rowOf table m) = ap (clausesText table) (sym (add-one m)) ∙ clauses-step table m in
-    rw (e, length-append before (clauseText (rowOf table m))) (omega (arith, clauses-length table m, clause-length (rowOf table m)))
+pub clauses-length : (top : ℕ) (table : List ℕ) (m : ℕ) → length (clausesText top table m) ≤ mostClause * m
+clauses-length top table zero = rw (clauses-none top table) (omega arith)
+clauses-length top table (suc m) =
+    let before = clausesText top table m in
+    let more = clauseText top (rowOf table m) in
+    let e : clausesText top table (suc m) ≡ before ++ more = ap (clausesText top table) (sym (add-one m)) ∙ clauses-step top table m in
+    rw (e, length-append before more) (omega (arith, clauses-length top table m, clause-length top (rowOf table m)))
 
 -- ---- the header, and the whole
 
@@ -50,11 +51,11 @@ header-length n m t =
     rw (length-append (numberText n) (space ∷ (numberText m ++ top)), length-append (numberText m) top)
     (omega (arith, number-length n, number-length m, line-length (space ∷ []) t))
 
-pub file-is : (n : ℕ) (table : List ℕ) → wcnfText n table ≡ headerText n (rowCount table) (topOf table) ++ clausesText table (rowCount table)
+pub file-is : (n : ℕ) (table : List ℕ) → wcnfText n table ≡ headerText n (rowCount table) (topOf table) ++ clausesText (topOf table) table (rowCount table)
 unfolding wcnfText bytes lineText
 file-is n table =
     let m = rowCount table in
-    let body = clausesText table m in
+    let body = clausesText (topOf table) table m in
     let top = numberText (topOf table) in
     let end = top ++ (lineFeed ∷ []) in
     sym

@@ -48,7 +48,7 @@ fn put_file(out: &mut [u8], variables: u64, table: &[u64]) -> usize
     let m = table.len() / Row::WORDS;
     let top = top_of(table);
     let second = put_header(out, variables, m as u64, top);
-    clauses::put_clauses(out, second, table, m)
+    clauses::put_clauses(out, second, top, table, m)
 }
 
 // How many bytes the file has, which then stand at the front of those lent; or why none was written.

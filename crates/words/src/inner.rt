@@ -24,7 +24,8 @@ pub fn row_in(words: &[u64], at: usize) -> Row
     let positive = words[at];
     let negative = words[at + 1];
     let weight = words[at + 2];
-    Row::new(Lits { positive, negative }, weight)
+    let mark = words[at + 3];
+    Row::marked(Lits { positive, negative }, weight, mark)
 }
 
 // The words of a row, from a place on.
@@ -35,6 +36,7 @@ pub fn set_row_in(words: &mut [u64], at: usize, row: Row)
     words[at] = row.lits.positive;
     words[at + 1] = row.lits.negative;
     words[at + 2] = row.weight;
+    words[at + 3] = row.mark;
 }
 
 // Row i of a desk.

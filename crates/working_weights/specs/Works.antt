@@ -10,14 +10,16 @@ use Rattle.rules.specs.declared.Row.{Row}
 use Rattle.rules.specs.Desk.{satisfied}
 use Rattle.rules.specs.Bound.{weightWhere}
 use Rattle.rules.specs.Groups.{workingWeight}
+use Rattle.desk_laws.specs.Charged.{chargedRow}
 use Rattle.working_weights.specs.declared.Shares.{Shares}
 
 -- a row's weight where the row is unsatisfied
 unfoldable pub unsatisfiedWeight : Part → Row → ℕ
 unsatisfiedWeight p row = cond (satisfied p (row .lits)) 0 (row .weight)
 
-unfoldable pub sharesOf : Part → Row → Shares
-sharesOf p row = record { lost = weightWhere isEmpty p row; working = weightWhere (λ l. not (isEmpty l)) p row }
+-- what is lost has a charge where the row is hard
+unfoldable pub sharesOf : Part → ℕ → Row → Shares
+sharesOf p charge row = record { lost = weightWhere isEmpty p (chargedRow charge row); working = weightWhere (λ l. not (isEmpty l)) p row }
 
 -- the first n words are the working weights of the first n rows; there are as many words as before
 pub record Works (d : List ℕ) (p : Part) (n : ℕ) (before words : List ℕ) : Type 0 where

@@ -9,15 +9,17 @@ use literals::Literal;
 use pieces_written::inner;
 use rules::Row;
 
-// A row's two lines.
+// A row's three lines.
 fn put_row(out: &mut [u8], at: usize, row: Row) -> usize
     requires { ⌜ at + mostRow ≤ 2 ^ 32 ⌝ }
     ensures { λ r. ⌜ Stored (now (out .entry)) at (rowText row) r (now (out .exit)) ⌝ }
 {
     let weight = row.weight;
+    let mark = row.mark;
     let lits = row.lits;
     let second = inner::put_number_line(out, at, b"weight=", weight);
-    inner::put_lits_line(out, second, b"lits=", Literal::MOST, lits)
+    let third = inner::put_number_line(out, second, b"hard=", mark);
+    inner::put_lits_line(out, third, b"lits=", Literal::MOST, lits)
 }
 
 // The first m rows.

@@ -6,7 +6,7 @@ use Rattle.rules.specs.declared.Losses.{Losses}
 use Rattle.rules.specs.declared.Bounded.{Bounded}
 use Rattle.rules.specs.Bound.{deskWhy}
 use Rattle.rules.specs.Choice.{lossesBy, bounded}
-use Rattle.desk_laws.proofs.Readable.{readable, used-most}
+use Rattle.desk_laws.proofs.Readable.{readable}
 use Rattle.bound.proofs.bound.Statement.{statement}
 use Rattle.bound.proofs.bound.Tie as tie
 
@@ -20,7 +20,7 @@ losses-by-requires : tie.Need-losses-by-requires
 losses-by-requires c κs =
     let d = c .before .before .before .before .args .desk .now in
     let well = sym (c .before .before .well-formed .ensures) ∙ c .before .if1 .taken in
-    (readable d well, used-most d well)
+    readable d well
 
 returns : tie.Need-returns
 unfolding bounded deskWhy

@@ -1,22 +1,22 @@
 -- `rows_sound` meets its contract: the rows passed were sound, and one that is not decides.
 use Prim.Native.Nat.{ℕ, _≤_, _-_}
-use mathlib.Core.Path.{_≡_, sym, ap, _∙_, subst}
+use mathlib.Core.Path.{_≡_, sym, ap, ap₂, _∙_, subst}
 use mathlib.Core.List.{List}
-use mathlib.Core.Bool.{Bool, true, not}
+use mathlib.Core.Bool.{Bool, true, not, _||_}
 use native.Mathlib.Omega.{arith}
 use borrow.Author.Needs.{needs}
 use Rattle.masks.specs.Sums.{every}
 use Rattle.masks.proofs.Sums.{every-empty, every-more, every-false}
 use Rattle.masks.proofs.Choice.{both}
 use Rattle.rules.specs.declared.Row.{Row}
-use Rattle.rules.specs.Table.{badLits}
+use Rattle.rules.specs.Table.{badLits, badMark}
 use Rattle.rules.specs.Desk.{rowOn}
 use Rattle.formed.proofs.rows_sound.Statement.{statement}
 use Rattle.formed.proofs.rows_sound.Tie as tie
 
--- row i has no variable both ways or above the count
+-- row i has no variable both ways or above the count, and no bad mark
 abbrev sound : List ℕ → ℕ → ℕ → Bool
-sound desk variables i = not (badLits variables (rowOn desk i .lits))
+sound desk variables i = not (badLits variables (rowOn desk i .lits) || badMark (rowOn desk i))
 
 abbrev Inv-loop : tie.InvT-loop
 Inv-loop desk variables n i₀ i = (i ≤ n) × (every i (sound desk variables) ≡ true)
@@ -33,18 +33,23 @@ row-on-requires c κs = omega arith
 bad-lits-requires : tie.Need-bad-lits-requires Inv-loop μ-loop
 bad-lits-requires c κs = search needs
 
+bad-mark-requires : tie.Need-bad-mark-requires Inv-loop μ-loop
+bad-mark-requires c κs = search needs
+
 -- what this row is found to be
-gave : (c : tie.After-bad-lits Inv-loop μ-loop)
-    → not (c .bad-lits .result) ≡ sound (c .before .before .before .before .before .args .desk .now)
-    (c .before .before .before .before .before .args .variables) (c .before .before .before .loop .i)
+gave : (c : tie.After-bad-mark Inv-loop μ-loop)
+    → not (c .before .bad-lits .result || c .bad-mark .result) ≡ sound (c .before .before .before .before .before .before .args .desk .now)
+    (c .before .before .before .before .before .before .args .variables) (c .before .before .before .before .loop .i)
 gave c =
-    let a = c .before .before .before .before .before .args in
-    ap not (c .bad-lits .ensures ∙ ap (λ (r : Row). badLits (a .variables) (r .lits)) (c .before .row-on .ensures))
+    let a = c .before .before .before .before .before .before .args in
+    let row = c .before .before .row-on .ensures in
+    ap not (ap₂ (λ (x y : Bool). x || y)
+    (c .before .bad-lits .ensures ∙ ap (λ (r : Row). badLits (a .variables) (r .lits)) row) (c .bad-mark .ensures ∙ ap badMark row))
 
 returns : tie.Need-returns Inv-loop μ-loop
 returns c =
-    let a = c .before .before .before .before .before .before .args in
-    let l = c .before .before .before .before .loop in
+    let a = c .before .before .before .before .before .before .before .args in
+    let l = c .before .before .before .before .before .loop in
     sym (every-false (a .n) (sound (a .desk .now) (a .variables)) (l .i) (omega arith) (sym (gave (c .before)) ∙ ap not (c .if1 .taken)))
 
 add-i : tie.Need-add-i Inv-loop μ-loop
@@ -55,8 +60,8 @@ loop-less c = omega arith
 
 loop-again : tie.Need-loop-again Inv-loop μ-loop
 loop-again c =
-    let a = c .before .before .before .before .before .before .args in
-    let l = c .before .before .before .before .loop in
+    let a = c .before .before .before .before .before .before .before .args in
+    let l = c .before .before .before .before .before .loop in
     (omega arith, every-more (l .i) (sound (a .desk .now) (a .variables)) ∙ both (l .inv .1) (sym (gave (c .before)) ∙ ap not (c .if1 .left)))
 
 returns-2 : tie.Need-returns-2 Inv-loop μ-loop
@@ -75,6 +80,7 @@ rows-sound-spec =
     loop-holds
     row-on-requires
     bad-lits-requires
+    bad-mark-requires
     returns
     add-i
     loop-less

@@ -5,7 +5,7 @@ use Rattle.rules.specs.declared.Found.{Found}
 use Rattle.rules.specs.declared.Searched.{Searched}
 use Rattle.rules.specs.Bound.{deskWhy}
 use Rattle.rules.specs.Walk.{searched}
-use Rattle.desk_laws.proofs.Readable.{readable, used-most}
+use Rattle.desk_laws.proofs.Readable.{readable}
 use Rattle.walk.proofs.search.Statement.{statement}
 use Rattle.walk.proofs.search.Tie as tie
 
@@ -16,7 +16,7 @@ found-by-choice-requires : tie.Need-found-by-choice-requires
 found-by-choice-requires c κs =
     let d = c .before .before .before .args .desk .now in
     let well = sym (c .before .well-formed .ensures) ∙ c .if1 .taken in
-    (readable d well, used-most d well)
+    readable d well
 
 returns : tie.Need-returns
 unfolding searched deskWhy

@@ -5,17 +5,17 @@ use native.Mathlib.Omega.{arith}
 use borrow.Author.Needs.{needs}
 use Rattle.masks.proofs.Sums.{sum-empty}
 use Rattle.rules.specs.Desk.{inUse}
-use Rattle.rules.specs.Bound.{lostBeyond}
-use Rattle.bound.specs.Units.{Gathered, lostOf}
+use Rattle.desk_laws.specs.Charged.{lostCharged}
+use Rattle.bound.specs.Units.{Gathered}
 use Rattle.bound.proofs.Gathering.{gathered-at}
 use Rattle.bound.proofs.inner.gather.Statement.{statement}
 use Rattle.bound.proofs.inner.gather.Tie as tie
 
 abbrev Inv-loop : tie.InvT-loop
-Inv-loop desk p sums₀ n lost₀ i₀ sums lost i = (i ≤ n) × (lost ≡ lostOf desk p i) × Gathered desk p i sums
+Inv-loop desk p charge sums₀ n lost₀ i₀ sums lost i = (i ≤ n) × (lost ≡ lostCharged charge desk p i) × Gathered desk p i sums
 
 abbrev μ-loop : tie.MeasureT-loop
-μ-loop desk p sums₀ n lost₀ i₀ sums lost i = n - i
+μ-loop desk p charge sums₀ n lost₀ i₀ sums lost i = n - i
 
 word-requires : tie.Need-word-requires Inv-loop μ-loop
 word-requires c κs = search needs
@@ -54,7 +54,6 @@ same-length : tie.Need-same-length Inv-loop μ-loop
 same-length c = search needs
 
 returns : tie.Need-returns Inv-loop μ-loop
-unfolding lostBeyond
 returns c =
     let call = c .before .before in
     let t = call .before .before .before in
@@ -62,7 +61,8 @@ returns c =
     let d = a .desk .now in
     let end = t .loop .i + (t .before .word .result - t .loop .i) in
     let e : end ≡ inUse d = omega (arith, t .before .word .ensures) in
-    (_∙_ {b = lostOf d (a .p) end} (call .gather-next2 .ensures .0) (ap (lostOf d (a .p)) e), gathered-at d (a .p) e (call .gather-next2 .ensures .1))
+    let lost = lostCharged (a .charge) d (a .p) in
+    (_∙_ {b = lost end} (call .gather-next2 .ensures .0) (ap lost e), gathered-at d (a .p) e (call .gather-next2 .ensures .1))
 
 pub gather-spec : {M : Type 1} → statement M
 gather-spec =

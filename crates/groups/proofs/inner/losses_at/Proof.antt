@@ -1,8 +1,9 @@
 -- `losses_at` meets its contract: nothing costs as much as is asked, so that all hunts are made.
-use mathlib.Core.Path.{_≡_}
+use mathlib.Core.Path.{_≡_, _∙_}
 use native.Mathlib.Omega.{arith}
 use borrow.Author.Needs.{needs}
 use Rattle.rules.specs.Groups.{groupsCost, lossesByGroups}
+use Rattle.desk_laws.proofs.Charged.{charged-none}
 use Rattle.groups.proofs.Fits.{groups-fit, lying, begun}
 use Rattle.groups.proofs.inner.losses_at.Statement.{statement}
 use Rattle.groups.proofs.inner.losses_at.Tie as tie
@@ -11,10 +12,7 @@ word-requires : tie.Need-word-requires
 word-requires c κs = search needs
 
 weigh-requires : tie.Need-weigh-requires
-weigh-requires c κs = search needs
-
-add-foreseen-up-to : tie.Need-add-foreseen-up-to
-add-foreseen-up-to c = search needs
+weigh-requires c κs = let s = c .before .before .before .before in ((s .pre .0, omega arith), s .pre .1)
 
 foreseen-up-to-requires : tie.Need-foreseen-up-to-requires
 foreseen-up-to-requires c κs =
@@ -37,7 +35,7 @@ returns c =
     let s = call .before .before .before .before .before in
     let all : hunts .foreseen-up-to .result ≡ groupsCost (s .args .desk .now) (s .args .p) =
     omega (arith, hunts .foreseen-up-to .ensures, groups-fit (s .args .desk .now) (s .pre .0) (s .args .p)) in
-    rw (call .before .before .word .ensures, call .weigh .ensures .0, all)
+    rw (call .before .before .word .ensures, call .weigh .ensures .0 ∙ charged-none (s .args .desk .now) (s .args .p), all)
 
 pub losses-at-spec : {M : Type 1} → statement M
 losses-at-spec =
@@ -45,7 +43,6 @@ losses-at-spec =
     (tie.spec
     word-requires
     weigh-requires
-    add-foreseen-up-to
     foreseen-up-to-requires
     same-length
     returns)

@@ -7,9 +7,10 @@ use borrow.Author.Tests.{lt-ltb, le-ltb, not-true, not-false}
 use Rattle.rules.specs.Desk.{loaded, conceded, weightOn}
 use Rattle.rules.specs.Steps.{countFits}
 use Rattle.rules.specs.TakeBack.{lastKind, lastCount, lastFirst, lastConceded}
-use Rattle.last_entry.specs.Last.{namedWell, addedWell, overAfter}
+use Rattle.last_entry.specs.Last.{namedWell, addedWell, softNamed, overAfter}
 use Rattle.last_entry.proofs.Lasts.{step-stands, whole, kind-word, first-word}
-use Rattle.last_entry.proofs.Bad.{bad-count, bad-named, bad-first, bad-added, bad-conceded, bad-weight, named-apart, named-below, few, some, first-fits}
+use Rattle.last_entry.proofs.Bad.{bad-count, bad-named, bad-first, bad-added, bad-conceded, bad-hard, bad-weight}
+use Rattle.last_entry.proofs.Bad.{named-apart, named-below, few, some, first-fits}
 use Rattle.last_entry.proofs.Regained.{fits-after}
 use borrow.Author.Needs.{needs}
 use Rattle.last_entry.proofs.inner.bad_rewriting.Statement.{statement}
@@ -158,6 +159,45 @@ returns-5 c =
     (start .args .desk .now))
     (omega (arith, c .before .word2 .ensures, c .before .before .conceded-by .ensures, c .if5 .taken))))
 
+none-hard-requires : tie.Need-none-hard-requires
+none-hard-requires c κs =
+    let s = c .before .before .before .before .before .before .before .before .before .before .before .before .before .before .before in
+    let d = s .args .desk .now in
+    let a = count-holds (c .before .before .before .before .before .before .before .before .before) in
+    let g = added-holds (c .before .before .before) in
+    let n = count-word (c .before .before .before .before .before .before .before .before .before .before .before .before) in
+    let first = first-told (c .before .before .before .before .before .before .before .before .before .before .before) in (
+      s .pre .0,
+      (
+        omega (arith, n, few d (s .pre .1 .0) (s .pre .1 .1) a),
+        (
+          omega (arith, first, first-fits d (s .pre .1 .0) (s .pre .1 .1) a g),
+          rw (n, first) (named-holds (c .before .before .before .before .before .before .before)),
+        ),
+      ),
+    )
+
+-- conceded is not less than the step added
+repaid : (c : tie.Else5)
+    → let d = c .before .before .before .before .before .before .before .before .before .before .before .before .before .before .before .args .desk .now in
+    ltb (conceded d) (lastConceded d) ≡ false
+repaid c =
+    let d = c .before .before .before .before .before .before .before .before .before .before .before .before .before .before .before .args .desk .now in
+    le-ltb (conceded d) (lastConceded d) (omega (arith, c .before .word2 .ensures, c .before .before .conceded-by .ensures, c .if5 .left))
+
+soft-told : (c : tie.After-none-hard)
+    → let here = c .before .before .before .before .before .before .before .before in
+    let d = here .before .before .before .before .before .before .before .before .args .desk .now in
+    c .none-hard .result ≡ softNamed d (lastCount d)
+soft-told c = rw (c .none-hard .ensures, count-word (c .before .before .before .before .before .before .before .before .before .before .before .before .before))
+
+returns-6 : tie.Need-returns-6
+returns-6 c =
+    let added = c .before .before .before .before .before in
+    let first = added .before .before in
+    sym (bad-hard _ (count-holds (first .before .before .before .before)) (named-holds (first .before .before)) (first-holds first)
+    (added-holds added) (repaid (c .before .before)) (sym (soft-told (c .before)) ∙ not-true _ (c .if6 .taken)))
+
 word-requires-3 : tie.Need-word-requires-3
 word-requires-3 c κs = search needs
 
@@ -167,15 +207,12 @@ sub-too-heavy c = search needs
 too-heavy-requires : tie.Need-too-heavy-requires
 unfolding weightOn
 too-heavy-requires c κs =
-    let back10 = c .before .before .before .before .before .before .before .before .before .before in
-    let back12 = c .before .before .before .before .before .before .before .before .before .before .before .before in
-    let back13 = c .before .before .before .before .before .before .before .before .before .before .before .before .before in
-    let s = c .before .before .before .before .before .before .before .before .before .before .before .before .before .before .before .before in
+    let s = c .before .before .before .before .before .before .before .before .before .before .before .before .before .before .before .before .before .before in
     let d = s .args .desk .now in
     let f = whole d (s .pre .0) in
-    let n = count-word back13 in
-    let a = count-holds back10 in
-    let g = added-holds (c .before .before .before .before) in
+    let n = count-word (c .before .before .before .before .before .before .before .before .before .before .before .before .before .before .before) in
+    let a = count-holds (c .before .before .before .before .before .before .before .before .before .before .before .before) in
+    let g = added-holds (c .before .before .before .before .before .before) in
     record {
       stands = s .pre .0;
       some = omega (arith, n, some d (s .pre .1 .0) (s .pre .1 .1) a);
@@ -183,41 +220,33 @@ too-heavy-requires c κs =
       inUseFits =
           omega (
             arith,
-            first-told back12,
-            first-fits d
-                (s .pre .1 .0) (s .pre .1 .1) a g,
+            first-told (c .before .before .before .before .before .before .before .before .before .before .before .before .before .before),
+            first-fits d (s .pre .1 .0) (s .pre .1 .1) a g,
           );
       startFits = omega (arith, c .word3 .ensures, f .light);
     }
 
-returns-6 : tie.Need-returns-6
+returns-7 : tie.Need-returns-7
 unfolding overAfter
-returns-6 c =
-    let back7 = c .before .before .before .before .before .before .before in
-    let back9 = c .before .before .before .before .before .before .before .before .before in
-    let back11 = c .before .before .before .before .before .before .before .before .before .before .before in
-    let back13 = c .before .before .before .before .before .before .before .before .before .before .before .before .before in
-    let back14 = c .before .before .before .before .before .before .before .before .before .before .before .before .before .before in
-    let s = c .before .before .before .before .before .before .before .before .before .before .before .before .before .before .before .before .before in
+returns-7 c =
+    let here = c .before .before .before .before .before .before .before .before .before in
+    let s = here .before .before .before .before .before .before .before .before .before .before in
     let d = s .args .desk .now in
     let f = whole d (s .pre .0) in
-    let a = count-holds back11 in
-    let b = named-holds back9 in
-    let e = first-holds back7 in
-    let g = added-holds (c .before .before .before .before .before) in
-    let h =
-    le-ltb (conceded d) (lastConceded d)
-    (omega (arith, c .before .before .before .word2 .ensures, c .before .before .before .before .conceded-by .ensures, c .before .before .if5 .left)) in
+    let a = count-holds (c .before .before .before .before .before .before .before .before .before .before .before .before .before) in
+    let b = named-holds (c .before .before .before .before .before .before .before .before .before .before .before) in
+    let e = first-holds (c .before .before .before .before .before .before .before .before .before) in
+    let g = added-holds (c .before .before .before .before .before .before .before) in
+    let h = repaid (c .before .before .before .before) in
+    let k = sym (soft-told (c .before .before .before)) ∙ not-false _ (c .before .before .if6 .left) in
     rw (
       c .too-heavy .ensures,
       c .before .word3 .ensures,
-      c .before .before .before .before .conceded-by .ensures,
-      count-word
-          back14,
-      first-told
-          back13,
+      c .before .before .before .before .before .before .conceded-by .ensures,
+      count-word (c .before .before .before .before .before .before .before .before .before .before .before .before .before .before .before .before),
+      first-told (c .before .before .before .before .before .before .before .before .before .before .before .before .before .before .before),
     )
-    (sym (bad-weight d a b e g h ∙ fits-after d f (first-fits d (s .pre .1 .0) (s .pre .1 .1) a g) (named-apart d b) (named-below d b)))
+    (sym (bad-weight d a b e g h k ∙ fits-after d f (first-fits d (s .pre .1 .0) (s .pre .1 .1) a g) (named-apart d b) (named-below d b)))
 
 pub bad-rewriting-spec : {M : Type 1} → statement M
 bad-rewriting-spec =
@@ -237,7 +266,9 @@ bad-rewriting-spec =
     conceded-by-requires
     word-requires-2
     returns-5
+    none-hard-requires
+    returns-6
     word-requires-3
     sub-too-heavy
     too-heavy-requires
-    returns-6)
+    returns-7)

@@ -39,17 +39,14 @@ returns-2 c =
 bad-lits-requires : tie.Need-bad-lits-requires
 bad-lits-requires c κs = search needs
 
-new-requires : tie.Need-new-requires
-new-requires c κs = search needs
-
 returns-3 : tie.Need-returns-3
 returns-3 c =
-    let second = c .before .before .before in
+    let second = c .before .before in
     let first = second .before .before .before .before in
     let a = first .before .before .before .before .args in
     let number = matched (first .before .before .number-at .ensures) (first .weight .given .1) in
     let read = matched (second .before .before .members-from .ensures) (second .lits .given .1) in
-    clause-is (a .variables) (a .s .now) (a .at) _ _ number _ _ _ _ _ read (c .new .ensures) (c .before .bad-lits .ensures)
+    clause-is (a .variables) (a .s .now) (a .at) _ _ number _ _ _ _ read (c .bad-lits .ensures)
 
 pub clause-at-spec : {M : Type 1} → statement M
 clause-at-spec =
@@ -64,5 +61,4 @@ clause-at-spec =
     enum-told-2
     returns-2
     bad-lits-requires
-    new-requires
     returns-3)

@@ -6,56 +6,56 @@ use native.Mathlib.Omega.{arith}
 use borrow.Author.Needs.{needs}
 use Rattle.rules.specs.WcnfReader.{clausesWhy}
 use Rattle.text_laws.proofs.Matched.{matched}
-use Rattle.wcnf_reader.proofs.Turns.{why-broken, why-bad, why-top, why-next, why-end, why-surplus}
+use Rattle.wcnf_reader.proofs.Turns.{why-broken, why-bad, why-next, why-end, why-surplus}
 use Rattle.wcnf_reader.proofs.clauses.clauses_why.Statement.{statement}
 use Rattle.wcnf_reader.proofs.clauses.clauses_why.Tie as tie
 
 abbrev Inv-loop : tie.InvT-loop
-Inv-loop s from clauses variables top first at₀ i₀ at i =
-    (i ≤ clauses) × (clausesWhy (clauses - i) i variables top s at (first + i) ≡ clausesWhy clauses 0 variables top s from first)
+Inv-loop s from clauses variables first at₀ i₀ at i =
+    (i ≤ clauses) × (clausesWhy (clauses - i) i variables s at (first + i) ≡ clausesWhy clauses 0 variables s from first)
 
 abbrev μ-loop : tie.MeasureT-loop
-μ-loop s from clauses variables top first at₀ i₀ at i = clauses - i
+μ-loop s from clauses variables first at₀ i₀ at i = clauses - i
 
 -- a turn more: the clauses that are left, with one taken off
 turn : (c : tie.In-loop Inv-loop μ-loop)
     → clausesWhy (suc (c .before .before .before .args .clauses - (c .before .loop .i + 1))) (c .before .loop .i) (c .before .before .before .args .variables)
-    (c .before .before .before .args .top) (c .before .before .before .args .s .now) (c .before .loop .at)
+    (c .before .before .before .args .s .now) (c .before .loop .at)
     (c .before .before .before .args .first + c .before .loop .i)
-    ≡ clausesWhy (c .before .before .before .args .clauses) 0 (c .before .before .before .args .variables) (c .before .before .before .args .top)
+    ≡ clausesWhy (c .before .before .before .args .clauses) 0 (c .before .before .before .args .variables)
     (c .before .before .before .args .s .now) (c .before .before .before .args .from) (c .before .before .before .args .first)
 turn c =
     let a = c .before .before .before .args in
     let loop = c .before .loop in
     let left : suc (a .clauses - (loop .i + 1)) ≡ a .clauses - loop .i = omega arith in
-    ap (λ (m : ℕ). clausesWhy m (loop .i) (a .variables) (a .top) (a .s .now) (loop .at) (a .first + loop .i)) left ∙ loop .inv .1
+    ap (λ (m : ℕ). clausesWhy m (loop .i) (a .variables) (a .s .now) (loop .at) (a .first + loop .i)) left ∙ loop .inv .1
 
 -- no clause is left
 last : (c : tie.After-loop Inv-loop μ-loop)
     → clausesWhy 0 (c .before .loop .i) (c .before .before .before .args .variables)
-    (c .before .before .before .args .top) (c .before .before .before .args .s .now) (c .before .loop .at)
+    (c .before .before .before .args .s .now) (c .before .loop .at)
     (c .before .before .before .args .first + c .before .before .before .args .clauses)
-    ≡ clausesWhy (c .before .before .before .args .clauses) 0 (c .before .before .before .args .variables) (c .before .before .before .args .top)
+    ≡ clausesWhy (c .before .before .before .args .clauses) 0 (c .before .before .before .args .variables)
     (c .before .before .before .args .s .now) (c .before .before .before .args .from) (c .before .before .before .args .first)
 last c =
     let a = c .before .before .before .args in
     let loop = c .before .loop in
     let none : 0 ≡ a .clauses - loop .i = omega arith in
     let line : a .first + a .clauses ≡ a .first + loop .i = omega arith in
-    (λ j. clausesWhy (none j) (loop .i) (a .variables) (a .top) (a .s .now) (loop .at) (line j)) ∙ loop .inv .1
+    (λ j. clausesWhy (none j) (loop .i) (a .variables) (a .s .now) (loop .at) (line j)) ∙ loop .inv .1
 
 loop-holds : tie.Need-loop-holds Inv-loop μ-loop
 loop-holds c =
     let a = c .before .args in
     let all : a .clauses - 0 ≡ a .clauses = sub-zero (a .clauses) in
     let line : a .first + 0 ≡ a .first = add-zero (a .first) in
-    (omega arith, (λ j. clausesWhy (all j) 0 (a .variables) (a .top) (a .s .now) (a .from) (line j)))
+    (omega arith, (λ j. clausesWhy (all j) 0 (a .variables) (a .s .now) (a .from) (line j)))
 
 clause-at-requires : tie.Need-clause-at-requires Inv-loop μ-loop
 clause-at-requires c κs = search needs
 
-enum-known-row : tie.Need-enum-known-row Inv-loop μ-loop
-enum-known-row c = search needs
+enum-known-bad : tie.Need-enum-known-bad Inv-loop μ-loop
+enum-known-bad c = search needs
 
 enum-told : tie.Need-enum-told Inv-loop μ-loop
 enum-told c = search needs
@@ -68,23 +68,15 @@ returns c =
     let here = c .before .before .before in
     let loop = here .before .loop in
     let clause = matched (c .before .before .clause-at .ensures) (c .enum-told .given .1) in
-    matched (why-broken _ (loop .i) _ _ _ (loop .at) _ clause) (turn here)
+    matched (why-broken _ (loop .i) _ _ (loop .at) _ clause) (turn here)
 
 returns-2 : tie.Need-returns-2 Inv-loop μ-loop
 returns-2 c =
     let found = c .before .before in
     let here = found .before .before .before in
     let loop = here .before .loop in
-    let clause = matched (found .before .before .clause-at .ensures) (found .row .given .1) in
-    matched (why-bad _ (loop .i) _ _ _ (loop .at) _ _ _ _ clause (c .if1 .taken)) (turn here)
-
-returns-3 : tie.Need-returns-3 Inv-loop μ-loop
-returns-3 c =
-    let found = c .before .before .before .before in
-    let here = found .before .before .before in
-    let loop = here .before .loop in
-    let clause = matched (found .before .before .clause-at .ensures) (found .row .given .1) in
-    matched (why-top _ (loop .i) _ _ _ (loop .at) _ _ _ _ clause (c .before .before .if1 .left) (omega (arith, c .if2 .taken))) (turn here)
+    let clause = matched (found .before .before .clause-at .ensures) (found .bad .given .1) in
+    matched (why-bad _ (loop .i) _ _ (loop .at) _ _ _ _ _ clause (c .if1 .taken)) (turn here)
 
 add-i : tie.Need-add-i Inv-loop μ-loop
 add-i c = omega arith
@@ -94,35 +86,35 @@ loop-less c = omega arith
 
 loop-again : tie.Need-loop-again Inv-loop μ-loop
 loop-again c =
-    let found = c .before .before .before .before in
+    let found = c .before .before in
     let here = found .before .before .before in
     let loop = here .before .loop in
     let a = here .before .before .before .args in
-    let clause = matched (found .before .before .clause-at .ensures) (found .row .given .1) in
+    let clause = matched (found .before .before .clause-at .ensures) (found .bad .given .1) in
     let one : suc (loop .i) ≡ loop .i + 1 = omega arith in
     let line : a .first + loop .i + 1 ≡ a .first + (loop .i + 1) = omega arith in
     let left = a .clauses - (loop .i + 1) in
-    let next = why-next left (loop .i) (a .variables) (a .top) (a .s .now) (loop .at) _ _ _ _ clause (c .before .before .if1 .left) in
-    let on = next (omega (arith, c .if2 .left)) ∙ (λ j. clausesWhy left (one j) (a .variables) (a .top) (a .s .now) (found .row .given .0 .1 .1 .0) (line j)) in
+    let next = why-next left (loop .i) (a .variables) (a .s .now) (loop .at) _ _ _ _ _ clause (c .if1 .left) in
+    let on = next ∙ (λ j. clausesWhy left (one j) (a .variables) (a .s .now) (found .bad .given .0 .1 .1 .1 .0) (line j)) in
     (omega arith, matched on (turn here))
 
 ends-requires : tie.Need-ends-requires Inv-loop μ-loop
 ends-requires c κs = search needs
 
-returns-4 : tie.Need-returns-4 Inv-loop μ-loop
-returns-4 c =
+returns-3 : tie.Need-returns-3 Inv-loop μ-loop
+returns-3 c =
     let loop = c .before .before .before .loop in
-    let ended = matched (c .before .ends .ensures) (c .if3 .taken) in
-    matched (why-end (loop .i) _ _ _ (loop .at) _ ended) (last (c .before .before))
+    let ended = matched (c .before .ends .ensures) (c .if2 .taken) in
+    matched (why-end (loop .i) _ _ (loop .at) _ ended) (last (c .before .before))
 
 add-line-2 : tie.Need-add-line-2 Inv-loop μ-loop
 add-line-2 c = omega arith
 
-returns-5 : tie.Need-returns-5 Inv-loop μ-loop
-returns-5 c =
+returns-4 : tie.Need-returns-4 Inv-loop μ-loop
+returns-4 c =
     let loop = c .before .before .before .loop in
-    let surplus = matched (c .before .ends .ensures) (c .if3 .left) in
-    matched (why-surplus (loop .i) _ _ _ (loop .at) _ surplus) (last (c .before .before))
+    let surplus = matched (c .before .ends .ensures) (c .if2 .left) in
+    matched (why-surplus (loop .i) _ _ (loop .at) _ surplus) (last (c .before .before))
 
 pub clauses-why-spec : {M : Type 1} → statement M
 clauses-why-spec =
@@ -132,16 +124,15 @@ clauses-why-spec =
     μ-loop
     loop-holds
     clause-at-requires
-    enum-known-row
+    enum-known-bad
     enum-told
     add-line
     returns
     returns-2
-    returns-3
     add-i
     loop-less
     loop-again
     ends-requires
-    returns-4
+    returns-3
     add-line-2
-    returns-5)
+    returns-4)

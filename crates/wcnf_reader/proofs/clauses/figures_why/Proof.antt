@@ -8,13 +8,13 @@ use Rattle.wcnf_reader.proofs.clauses.figures_why.Tie as tie
 returns : tie.Need-returns
 returns c =
     let a = c .before .before .args in
-    sym (over-variables (a .most) (a .s .now) (a .room) (a .variables) (a .clauses) (a .top) (a .from) (a .line) (c .if1 .taken))
+    sym (over-variables (a .most) (a .s .now) (a .room) (a .variables) (a .clauses) 0 (a .from) (a .line) (c .if1 .taken))
 
 returns-2 : tie.Need-returns-2
 returns-2 c =
     let one = c .before in
     let a = one .before .before .args in
-    sym (over-rows (a .most) (a .s .now) (a .room) (a .variables) (a .clauses) (a .top) (a .from) (a .line) (one .if1 .left) (c .if2 .taken))
+    sym (over-rows (a .most) (a .s .now) (a .room) (a .variables) (a .clauses) 0 (a .from) (a .line) (one .if1 .left) (c .if2 .taken))
 
 mul-if3 : tie.Need-mul-if3
 mul-if3 c = search needs
@@ -24,7 +24,7 @@ returns-3 c =
     let two = c .before in
     let one = two .before in
     let a = one .before .before .args in
-    sym (over-room (a .most) (a .s .now) (a .room) (a .variables) (a .clauses) (a .top) (a .from) (a .line) (one .if1 .left) (two .if2 .left) (c .if3 .taken))
+    sym (over-room (a .most) (a .s .now) (a .room) (a .variables) (a .clauses) 0 (a .from) (a .line) (one .if1 .left) (two .if2 .left) (c .if3 .taken))
 
 add-first : tie.Need-add-first
 add-first c = search needs
@@ -38,7 +38,7 @@ returns-4 c =
     let two = three .before in
     let one = two .before in
     let a = one .before .before .args in
-    by-clauses (a .most) (a .s .now) (a .room) (a .variables) (a .clauses) (a .top) (a .from) (a .line) (c .clauses-why .result)
+    by-clauses (a .most) (a .s .now) (a .room) (a .variables) (a .clauses) 0 (a .from) (a .line) (c .clauses-why .result)
     (one .if1 .left) (two .if2 .left) (three .if3 .left) (c .clauses-why .ensures)
 
 pub figures-why-spec : {M : Type 1} → statement M

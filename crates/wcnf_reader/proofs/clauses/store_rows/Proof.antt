@@ -14,13 +14,13 @@ use Rattle.wcnf_reader.proofs.clauses.store_rows.Statement.{statement}
 use Rattle.wcnf_reader.proofs.clauses.store_rows.Tie as tie
 
 abbrev Inv-loop : tie.InvT-loop
-Inv-loop s from rows table₀ at₀ i₀ table at i =
+Inv-loop s from rows top table₀ at₀ i₀ table at i =
     (i ≤ rows)
     × (length table ≡ length table₀)
-    × (sets table (rowWords * i) (clausesWords (rows - i) s at) ≡ sets table₀ 0 (clausesWords rows s from))
+    × (sets table (rowWords * i) (clausesWords (rows - i) top s at) ≡ sets table₀ 0 (clausesWords rows top s from))
 
 abbrev μ-loop : tie.MeasureT-loop
-μ-loop s from rows table₀ at₀ i₀ table at i = rows - i
+μ-loop s from rows top table₀ at₀ i₀ table at i = rows - i
 
 loop-holds : tie.Need-loop-holds Inv-loop μ-loop
 loop-holds c = (omega arith, refl, rw sub-zero)
@@ -28,8 +28,8 @@ loop-holds c = (omega arith, refl, rw sub-zero)
 clause-at-requires : tie.Need-clause-at-requires Inv-loop μ-loop
 clause-at-requires c κs = search needs
 
-enum-known-row : tie.Need-enum-known-row Inv-loop μ-loop
-enum-known-row c = search needs
+enum-known-weight : tie.Need-enum-known-weight Inv-loop μ-loop
+enum-known-weight c = search needs
 
 enum-told : tie.Need-enum-told Inv-loop μ-loop
 enum-told c = search needs
@@ -42,13 +42,16 @@ returns c =
     let a = c .before .before .before .before .before .before .before .args in
     let loop = c .before .before .before .before .loop in
     let clause = matched (c .before .before .clause-at .ensures) (c .enum-told .given .1) in
-    matched (left-broken (a .s .now) (a .rows) (loop .i) (loop .at) (loop .table) _ (omega arith) clause) (loop .inv .2)
+    matched (left-broken (a .top) (a .s .now) (a .rows) (loop .i) (loop .at) (loop .table) _ (omega arith) clause) (loop .inv .2)
+
+clause-row-requires : tie.Need-clause-row-requires Inv-loop μ-loop
+clause-row-requires c κs = search needs
 
 mul-set-row-in : tie.Need-mul-set-row-in Inv-loop μ-loop
-mul-set-row-in c = omega (arith, c .before .before .before .before .before .before .loop .inv .1)
+mul-set-row-in c = omega (arith, c .before .before .before .before .before .before .before .loop .inv .1)
 
 set-row-in-requires : tie.Need-set-row-in-requires Inv-loop μ-loop
-set-row-in-requires c κs = omega (arith, c .before .before .before .before .before .before .loop .inv .1)
+set-row-in-requires c κs = omega (arith, c .before .before .before .before .before .before .before .loop .inv .1)
 
 add-i : tie.Need-add-i Inv-loop μ-loop
 add-i c = omega arith
@@ -58,15 +61,18 @@ loop-less c = omega arith
 
 loop-again : tie.Need-loop-again Inv-loop μ-loop
 loop-again c =
-    let a = c .before .before .before .before .before .before .before .before .before .before .before .before .args in
-    let loop = c .before .before .before .before .before .before .before .before .before .loop in
-    let called = c .before .before .before .before .before .before .before .clause-at in
-    let found = c .before .before .before .before .before .row .given in
+    let made = c .before .before .before .before in
+    let told = made .before .before in
+    let turn = told .before .before .before .before in
+    let a = turn .before .before .before .args in
+    let loop = turn .loop in
+    let clause = matched (told .before .before .clause-at .ensures) (told .weight .given .1) in
+    let row = made .clause-row in
     let stored = c .before .before .set-row-in .ensures in
     let left : loop .i < a .rows = omega arith in
-    let words = left-stored (a .s .now) (a .rows) (loop .i) (loop .at) (loop .table) _ _ _ _ left (matched (called .ensures) (found .1)) in (
+    let words = left-stored (a .top) (a .s .now) (a .rows) (loop .i) (loop .at) (loop .table) _ _ _ _ _ (row .result) left clause (row .ensures) in (
       omega arith,
-      ap length stored ∙ length-sets (loop .table) (rowWords * loop .i) (rowWordsOf (found .0 .0)) ∙ loop .inv .1,
+      ap length stored ∙ length-sets (loop .table) (rowWords * loop .i) (rowWordsOf (row .result)) ∙ loop .inv .1,
       rw stored (words ∙ loop .inv .2),
     )
 
@@ -77,7 +83,7 @@ returns-2 : tie.Need-returns-2 Inv-loop μ-loop
 returns-2 c =
     let a = c .before .before .before .before .args in
     let loop = c .before .loop in
-    matched (left-none (a .s .now) (a .rows) (loop .i) (loop .at) (loop .table) (omega arith)) (loop .inv .2)
+    matched (left-none (a .top) (a .s .now) (a .rows) (loop .i) (loop .at) (loop .table) (omega arith)) (loop .inv .2)
 
 pub store-rows-spec : {M : Type 1} → statement M
 store-rows-spec =
@@ -87,10 +93,11 @@ store-rows-spec =
     μ-loop
     loop-holds
     clause-at-requires
-    enum-known-row
+    enum-known-weight
     enum-told
     same-length
     returns
+    clause-row-requires
     mul-set-row-in
     set-row-in-requires
     add-i

@@ -11,13 +11,13 @@ use Rattle.wcnf_writer.proofs.clauses.put_clauses.Statement.{statement}
 use Rattle.wcnf_writer.proofs.clauses.put_clauses.Tie as tie
 
 abbrev Inv-loop : tie.InvT-loop
-Inv-loop out₀ at table m next₀ i₀ out next i = (i ≤ m) × Stored out₀ at (clausesText table i) next out
+Inv-loop out₀ at top table m next₀ i₀ out next i = (i ≤ m) × Stored out₀ at (clausesText top table i) next out
 
 abbrev μ-loop : tie.MeasureT-loop
-μ-loop out₀ at table m next₀ i₀ out next i = m - i
+μ-loop out₀ at top table m next₀ i₀ out next i = m - i
 
 loop-holds : tie.Need-loop-holds Inv-loop μ-loop
-loop-holds c = (omega arith, rw clauses-none stored-none)
+loop-holds c = (omega arith, rw (clauses-none (c .before .before .args .top)) stored-none)
 
 mul-row-in : tie.Need-mul-row-in Inv-loop μ-loop
 mul-row-in c = omega (arith, c .before .before .before .before .pre .1)
@@ -29,7 +29,7 @@ put-clause-requires : tie.Need-put-clause-requires Inv-loop μ-loop
 put-clause-requires c κs =
     let turn = c .before .before .before in
     let a = turn .before .before .before .args in
-    omega (arith, turn .loop .inv .1 .place, clauses-length (a .table .now) (turn .loop .i))
+    omega (arith, turn .loop .inv .1 .place, clauses-length (a .top) (a .table .now) (turn .loop .i))
 
 add-i : tie.Need-add-i Inv-loop μ-loop
 add-i c = omega arith
@@ -44,7 +44,7 @@ loop-again c =
     let turn = read .before .before in
     let a = turn .before .before .before .args in
     let row : read .row-in .result ≡ rowOf (a .table .now) (turn .loop .i) = read .row-in .ensures in
-    (omega arith, rw (clauses-step (a .table .now) (turn .loop .i), ← row) (stored-both (turn .loop .inv .1) (c .before .before .put-clause .ensures)))
+    (omega arith, rw (clauses-step (a .top) (a .table .now) (turn .loop .i), ← row) (stored-both (turn .loop .inv .1) (c .before .before .put-clause .ensures)))
 
 same-length : tie.Need-same-length Inv-loop μ-loop
 same-length c = stored-kept (c .before .loop .inv .1)

@@ -28,12 +28,21 @@ mul-weight c = search needs
 shared-slice-read-weight : tie.Need-shared-slice-read-weight
 shared-slice-read-weight c = search needs
 
-new-requires : tie.Need-new-requires
-new-requires c κs = search needs
+add-mark : tie.Need-add-mark
+add-mark c = search needs
+
+mul-mark : tie.Need-mul-mark
+mul-mark c = search needs
+
+shared-slice-read-mark : tie.Need-shared-slice-read-mark
+shared-slice-read-mark c = search needs
+
+marked-requires : tie.Need-marked-requires
+marked-requires c κs = search needs
 
 returns : tie.Need-returns
 unfolding rowIn
-returns c = c .new .ensures
+returns c = c .marked .ensures
 
 pub row-in-spec : {M : Type 1} → statement M
 row-in-spec =
@@ -47,5 +56,8 @@ row-in-spec =
     add-weight
     mul-weight
     shared-slice-read-weight
-    new-requires
+    add-mark
+    mul-mark
+    shared-slice-read-mark
+    marked-requires
     returns)

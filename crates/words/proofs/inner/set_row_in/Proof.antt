@@ -1,6 +1,6 @@
 -- `set_row_in` meets its contract: the stores come one behind the other.
 use native.Mathlib.Omega.{arith}
-use native.Mathlib.Numerals.{add-one, add-two}
+use native.Mathlib.Numerals.{add-one, add-two, add-three}
 use lib.ListN.{length-set}
 use Rattle.rules.specs.Table.{rowWordsOf}
 use borrow.Author.Needs.{needs}
@@ -31,12 +31,21 @@ mul-words-3 c = search needs
 slice-write-words-3 : tie.Need-slice-write-words-3
 slice-write-words-3 c = simp length-set (omega arith)
 
+add-words-3 : tie.Need-add-words-3
+add-words-3 c = search needs
+
+mul-words-4 : tie.Need-mul-words-4
+mul-words-4 c = search needs
+
+slice-write-words-4 : tie.Need-slice-write-words-4
+slice-write-words-4 c = simp length-set (omega arith)
+
 same-length : tie.Need-same-length
 same-length c = search needs
 
 returns : tie.Need-returns
 unfolding rowWordsOf
-returns c = simp (add-one, add-two)
+returns c = simp (add-one, add-two, add-three)
 
 pub set-row-in-spec : {M : Type 1} → statement M
 set-row-in-spec =
@@ -50,5 +59,8 @@ set-row-in-spec =
     add-words-2
     mul-words-3
     slice-write-words-3
+    add-words-3
+    mul-words-4
+    slice-write-words-4
     same-length
     returns)
