@@ -23,29 +23,17 @@ static uint64_t draw(void)
     return state;
 }
 
-// One of the rows before has the same literals.
-static int is_there(const uint64_t *row)
-{
-    for (const uint64_t *earlier = table; earlier < row; earlier += OLIKUMPASHO_ROW_WORDS)
-        if (earlier[0] == row[0] && earlier[1] == row[1]) return 1;
-    return 0;
-}
-
 // Soft rows of two literals, but for the first two, x1 and (not x1, x2), which can be shifted there and back.
 static void make_table(void)
 {
-    static const uint64_t shifts[] = {1, 0, 9, OLIKUMPASHO_SOFT, 2, 1, 9, OLIKUMPASHO_SOFT};
-    memcpy(table, shifts, sizeof shifts);
-    for (uint64_t i = 2; i < rows; i++) {
-        uint64_t *row = table + OLIKUMPASHO_TABLE_WORDS(i);
-        do {
-            uint64_t first = draw() % 64, second = (first + 1 + draw() % 63) % 64;
-            row[0] = row[1] = 0;
-            row[draw() % 2] |= (uint64_t)1 << first;
-            row[draw() % 2] |= (uint64_t)1 << second;
-        } while (is_there(row));
+    for (uint64_t i = 0; i < rows; i++) {
+        uint64_t *row = table + OLIKUMPASHO_TABLE_WORDS(i), first = draw() % 64, second = (first + 1 + draw() % 63) % 64;
+        row[draw() % 2] |= (uint64_t)1 << first;
+        row[draw() % 2] |= (uint64_t)1 << second;
         row[OLIKUMPASHO_ROW_WEIGHT] = 1 + draw() % 9;
     }
+    static const uint64_t shifts[] = {1, 0, 9, OLIKUMPASHO_SOFT, 2, 1, 9, OLIKUMPASHO_SOFT};
+    memcpy(table, shifts, sizeof shifts);
 }
 
 static void load(void)

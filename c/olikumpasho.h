@@ -8,7 +8,7 @@
    every call ends, and nothing outside what is lent is read or written.
 
    WHAT COMES BACK. Each function but olikumpasho_well_formed answers 0 where the call is accepted. Else it is refused, and the answer has
-   the refusal's number in its low byte and its place above: the row or clause from 0 for 5, 6 and 22, the line from 1 for 20, else 0. (A line past
+   the refusal's number in its low byte and its place above: the row or clause from 0 for 5 and 6, the line from 1 for 20, else 0. (A line past
    2^56 - 1, which only a competition file could have, is told as that one.) A refused call has changed no lent word or byte, results included.
 
    THREADS. Nothing is shared but what is lent. Calls may run at once where none of them writes what another is lent: calls on separate
@@ -23,8 +23,7 @@
 
    WORDS. A row is four words: mask of positive literals, mask of negative ones (variable v has bit v - 1), weight, mark. A SOFT row, its mark
    OLIKUMPASHO_SOFT, weighs on a reading that doesn't satisfy it. A HARD row, its mark OLIKUMPASHO_HARD, is beyond giving up: no reading that a
-   search answers breaks it, its weight word is 0, and it is never spent. No two rows of a table have the same literals and the same mark; on a
-   desk rewritings may make such. A reading is the mask of the true variables. A desk with room for
+   search answers breaks it, its weight word is 0, and it is never spent. A reading is the mask of the true variables. A desk with room for
    `capacity` rows is OLIKUMPASHO_DESK_WORDS(capacity) words; words past it are never touched. It may be read, moved and copied as words.
 
      words         hold
@@ -81,8 +80,7 @@
      16       nothing to take back                                     take_back
      19       the input is over 65,536 bytes                           (in the text of answer)
      20       a line breaks the form                                   read, read_wcnf
-     22       a row has the literals and the mark of an earlier one    load, weight_of, write, write_wcnf
-   Where more than one holds, the first in the function's list below is given; rows are judged in order, each by 5, 6, 22. `answer` is
+   Where more than one holds, the first in the function's list below is given; rows are judged in order, each by 5 before 6. `answer` is
    itself refused by 4 alone: what the program refuses, 19 too, it answers in its text. The program takes fewer rows than `read` does, and
    refuses more of them where `read` would. */
 #ifndef OLIKUMPASHO_H
@@ -93,7 +91,7 @@
 #include <stdint.h>
 
 /* Rises by one with each change of a name, a number or a layout below. */
-#define OLIKUMPASHO_VERSION 7
+#define OLIKUMPASHO_VERSION 6
 
 /* ---- an answer, taken apart */
 
@@ -119,7 +117,6 @@
 #define OLIKUMPASHO_NOTHING_STANDS 16
 #define OLIKUMPASHO_INPUT_TOO_LONG 19
 #define OLIKUMPASHO_BAD_TEXT 20 /* place: the line */
-#define OLIKUMPASHO_REPEATED_ROW 22 /* place: the later row */
 
 /* ---- limits */
 
@@ -142,8 +139,8 @@
 #define OLIKUMPASHO_DESK_WORDS(capacity) \
     ((size_t)8 + OLIKUMPASHO_ROW_WORDS * (size_t)(capacity) + OLIKUMPASHO_ENTRY_WORDS * OLIKUMPASHO_MOST_STEPS)
 /* Bytes that are enough for write, for write_wcnf, and for answer, whatever they are given. */
-#define OLIKUMPASHO_MOST_WRITTEN ((size_t)555993)
-#define OLIKUMPASHO_MOST_WRITTEN_WCNF ((size_t)528478)
+#define OLIKUMPASHO_MOST_WRITTEN ((size_t)560023)
+#define OLIKUMPASHO_MOST_WRITTEN_WCNF ((size_t)532506)
 #define OLIKUMPASHO_MOST_ANSWERED ((size_t)886)
 
 /* ---- the words of a row, in a table and on a desk, and its marks */
@@ -240,11 +237,11 @@ extern "C" {
 
 /* The weight of a reading: weighed[0] is the sum of the weights of the rows that it doesn't satisfy, weighed[1] is 1 where it satisfies every
    hard row, else 0.
-   Refused by 1, 2, row by row 5, 6, 22, then 7, 8. */
+   Refused by 1, 2, 5, 6, 7, 8. */
 uint64_t olikumpasho_weight_of(uint64_t variables, const uint64_t *table, size_t words, uint64_t reading, uint64_t weighed[2]);
 
 /* Lays a table onto a desk with room for `capacity` rows, at least those of the table, and writes every word of the desk. No step stands.
-   Refused by 1, 2, 3, 4, row by row 5, 6, 22, then 7. */
+   Refused by 1, 2, 3, 4, 5, 6, 7. */
 uint64_t olikumpasho_load(uint64_t variables, const uint64_t *table, size_t words, uint64_t capacity, uint64_t *desk, size_t desk_words);
 
 /* Whether a desk in these words is well formed, as every desk is that load and the calls below have made.
@@ -282,13 +279,12 @@ uint64_t olikumpasho_bound(const uint64_t *desk, size_t desk_words, uint64_t cho
 uint64_t olikumpasho_search(const uint64_t *desk, size_t desk_words, uint64_t choice, uint32_t budget, uint64_t found[5]);
 
 /* Reads a text: its rows' words, four to a row, to the front of the table, and variables, budget and rows to head[0], head[1], head[2]. A row is
-   three lines: weight=, hard= with its mark, 0 or 1, and lits=. The rows are not judged; load does that, a hard one with a weight and one
-   that repeats an earlier one too.
+   three lines: weight=, hard= with its mark, 0 or 1, and lits=. The rows are not judged; load does that, a hard one with a weight too.
    Refused by 20 (first three lines), 1, 9, 2, 4, 20 (the rest). */
 uint64_t olikumpasho_read(const uint8_t *text, size_t count, uint64_t *table, size_t words, uint64_t head[3]);
 
 /* Writes the text of a table to the front of the output, *size bytes. OLIKUMPASHO_MOST_WRITTEN are always enough.
-   Refused by 1, 2, row by row 5, 6, 22, then 7, 4. */
+   Refused by 1, 2, 5, 6, 7, 4. */
 uint64_t olikumpasho_write(uint64_t variables, uint32_t budget, const uint64_t *table, size_t words, uint8_t *output, size_t room, size_t *size);
 
 /* Writes what the program answers to an input to the front of the output, *size bytes. OLIKUMPASHO_MOST_ANSWERED are always enough.
@@ -297,15 +293,13 @@ uint64_t olikumpasho_answer(const uint8_t *input, size_t count, uint8_t *output,
 
 /* Reads a competition file (DIMACS WCNF, the form with a top in its header): a row for each clause, to the front of the table, and
    variables and rows to head[0], head[1]. A literal given twice counts once. A clause that weighs top or more, whatever it is, makes a hard
-   row; no weight is judged, load does that. Soft clauses with the same literals make one row, at the place of the first, with the sum of
-   their weights, which stays soft whatever it is; a hard clause with those of an earlier hard one makes none. So there may be fewer rows than
-   the header has clauses; the table has to have room for a row for each clause, and words behind the rows stay as they were.
+   row; no weight is judged, load does that.
    Refused by 20 (comments and header), 1, 2, 4, then line by line 20, 5, and 20 for what follows the last clause. */
 uint64_t olikumpasho_read_wcnf(const uint8_t *text, size_t count, uint64_t *table, size_t words, uint64_t head[2]);
 
 /* Writes a table as a competition file, its top the sum of the soft weights and one, with which hard rows are written, to the front of the
    output, *size bytes. OLIKUMPASHO_MOST_WRITTEN_WCNF are always enough.
-   Refused by 1, 2, row by row 5, 6, 22, then 7, 4. */
+   Refused by 1, 2, 5, 6, 7, 4. */
 uint64_t olikumpasho_write_wcnf(uint64_t variables, const uint64_t *table, size_t words, uint8_t *output, size_t room, size_t *size);
 
 #ifdef __cplusplus

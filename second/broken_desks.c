@@ -309,9 +309,8 @@ static void break_desk(struct run *r)
 static void run_unformed(struct run *r)
 {
     struct chance *c = &r->chance;
-    bool full = one_in(c, 9);
-    struct draft d = {.variables = one_in(c, 3) ? (word)MOST_VARIABLES : between(c, full ? FULL_VARIABLES : 2, 63)};
-    add_mixed_rows(c, &d, full ? (word)MOST_LOADED : between(c, 2, 30), 9);
+    struct draft d = {.variables = one_in(c, 3) ? (word)MOST_VARIABLES : between(c, 2, 63)};
+    add_mixed_rows(c, &d, one_in(c, 9) ? (word)MOST_LOADED : between(c, 2, 30), 9);
     harden(c, &d);
     word spare = one_in(c, 2) ? 0 : one_in(c, 2) ? (word)MOST_CAPACITY : between(c, 0, 9), past = one_in(c, 2) ? 0 : 5;
     start_desk(r, &d, spare, past);

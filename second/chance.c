@@ -55,23 +55,6 @@ static bool on_variable(const struct clause *c, int variable)
     return false;
 }
 
-static bool on_literal(const struct clause *c, int literal)
-{
-    for (int i = 0; i < c->count; i++)
-        if (c->literals[i] == literal) return true;
-    return false;
-}
-
-/* So many variables in an order drawn, as literals. */
-static void draw_order(struct chance *c, int *literals, int count)
-{
-    for (int v = 1; v <= count; v++) literals[v - 1] = one_in(c, 2) ? v : -v;
-    for (int i = count - 1; i > 0; i--) {
-        int j = (int)(draw(c) % (word)(i + 1)), held = literals[i];
-        literals[i] = literals[j], literals[j] = held;
-    }
-}
-
 /* So many literals on different variables, fewer where there are too few variables. */
 static struct clause draw_clause(struct chance *c, word variables, word length)
 {
@@ -83,65 +66,12 @@ static struct clause draw_clause(struct chance *c, word variables, word length)
     return drawn;
 }
 
-/* --- no clause twice: document 02's C-17 --- */
-
-static bool alike(const word *row, const word *other) { return row[0] == other[0] && row[1] == other[1] && row[MARK] == other[MARK]; }
-
-/* Whether one of the first so many rows has the literals and the mark of this one. */
-static bool has_alike(const struct draft *d, word rows, const word *row)
-{
-    for (word r = 0; r < rows; r++)
-        if (alike(d->words + ROW_WORDS * r, row)) return true;
-    return false;
-}
-
-static bool has_row(const struct draft *d, const struct clause *c, word mark)
-{
-    word row[ROW_WORDS];
-    put_clause(row, c, 1);
-    row[MARK] = mark;
-    return has_alike(d, d->rows, row);
-}
-
-/* Whether a row from this one on repeats an earlier one. */
-static bool repeats_from(const struct draft *d, word from)
-{
-    for (word r = from; r < d->rows; r++)
-        if (has_alike(d, r, d->words + ROW_WORDS * r)) return true;
-    return false;
-}
-
-/* Of the rows from this one on those that repeat none are kept. */
-static void drop_repeats(struct draft *d, word from)
-{
-    word kept = from;
-    for (word r = from; r < d->rows; r++)
-        if (!has_alike(d, kept, d->words + ROW_WORDS * r)) memmove(d->words + ROW_WORDS * kept++, d->words + ROW_WORDS * r, ROW_WORDS * sizeof(word));
-    d->rows = kept;
-}
-
-enum { TRIES = 12 };
-
-/* A row of so many literals that the draft does not have, of more where those run out; none, where there are none left to be found. */
-static void add_new_row(struct chance *c, struct draft *d, word length, word weight)
-{
-    for (; length <= MOST_VARIABLES; length++) {
-        for (int tries = 0; tries < TRIES; tries++) {
-            struct clause drawn = draw_clause(c, d->variables, length);
-            if (has_row(d, &drawn, SOFT)) continue;
-            add_row(d, drawn, weight);
-            return;
-        }
-        if (length >= d->variables) return;
-    }
-}
-
-/* Full tables are drawn on so many variables at least, so that no row need be there twice. */
-enum { FULL_VARIABLES = 9 };
-
 static void add_random_rows(struct chance *c, struct draft *d, word rows, word length, word most)
 {
-    for (word i = 0; i < rows; i++) add_new_row(c, d, length, between(c, 1, most));
+    for (word i = 0; i < rows; i++) {
+        word weight = between(c, 1, most);
+        add_row(d, draw_clause(c, d->variables, length), weight);
+    }
 }
 
 /* Short rows on few variables, where every kind of step finds rows that fit. */
@@ -150,23 +80,22 @@ static void add_mixed_rows(struct chance *c, struct draft *d, word rows, word mo
     static const word lengths[] = {1, 1, 1, 1, 2, 2, 2, 2, 2, 2, 3, 3, 4, 0};
     for (word i = 0; i < rows; i++) {
         word length = lengths[draw(c) % (sizeof lengths / sizeof *lengths)];
-        add_new_row(c, d, length, between(c, 1, most));
+        word weight = between(c, 1, most);
+        add_row(d, draw_clause(c, d->variables, length), weight);
     }
 }
 
 static void add_clashing_units(struct chance *c, struct draft *d, word pairs, word most)
 {
     for (word i = 0; i < pairs; i++) {
-        word from = d->rows;
         int l = draw_literal(c, d->variables);
         add_row(d, unit_row(l), between(c, 1, most));
         add_row(d, unit_row(-l), between(c, 1, most));
-        drop_repeats(d, from);
     }
 }
 
 /* l1 and k rows (not li, l(i+1)); variables repeat wherever there are few of them. */
-static int draw_links(struct chance *c, struct draft *d, word k, word most)
+static int add_links(struct chance *c, struct draft *d, word k, word most)
 {
     int l = draw_literal(c, d->variables);
     add_row(d, unit_row(l), between(c, 1, most));
@@ -179,41 +108,21 @@ static int draw_links(struct chance *c, struct draft *d, word k, word most)
     return l;
 }
 
-static void draw_chain(struct chance *c, struct draft *d, word k, word most)
+static void add_chain(struct chance *c, struct draft *d, word k, word most)
 {
-    int last = draw_links(c, d, k, most);
+    int last = add_links(c, d, k, most);
     add_row(d, unit_row(-last), between(c, 1, most));
 }
 
-static void draw_fork(struct chance *c, struct draft *d, word k, word most)
+static void add_fork(struct chance *c, struct draft *d, word k, word most)
 {
-    int a = draw_links(c, d, k, most), b = a, e = a;
+    if (d->variables < 3) return;
+    int a = add_links(c, d, k, most), b = a, e = a;
     while (abs(b) == abs(a)) b = draw_literal(c, d->variables);
     while (abs(e) == abs(a) || abs(e) == abs(b)) e = draw_literal(c, d->variables);
     add_row(d, pair_row(-a, b), between(c, 1, most));
     add_row(d, pair_row(-a, e), between(c, 1, most));
     add_row(d, pair_row(-b, -e), between(c, 1, most));
-}
-
-/* Draws anew until no row is there twice; where that does not come, on few variables, the rows that are there already are left out. */
-static void add_drawn(struct chance *c, struct draft *d, word k, word most, void (*drawn)(struct chance *c, struct draft *d, word k, word most))
-{
-    word from = d->rows;
-    for (int tries = 0; tries < 2 * TRIES; tries++) {
-        d->rows = from;
-        drawn(c, d, k, most);
-        if (!repeats_from(d, from)) return;
-    }
-    drop_repeats(d, from);
-}
-
-static void draw_links_alone(struct chance *c, struct draft *d, word k, word most) { draw_links(c, d, k, most); }
-static void add_links(struct chance *c, struct draft *d, word k, word most) { add_drawn(c, d, k, most, draw_links_alone); }
-static void add_chain(struct chance *c, struct draft *d, word k, word most) { add_drawn(c, d, k, most, draw_chain); }
-
-static void add_fork(struct chance *c, struct draft *d, word k, word most)
-{
-    if (d->variables >= 3) add_drawn(c, d, k, most, draw_fork);
 }
 
 /* Changes the first soft row's weight so that the sum is the limit plus `over`, if that leaves it 1 at least. */
@@ -226,18 +135,10 @@ static void bring_sum_to_limit(struct draft *d, word over)
     if (all < MOST_WEIGHT + over) d->words[ROW_WORDS * soft + WEIGHT] = MOST_WEIGHT + over - all;
 }
 
-/* All variables, negative but for none of them, then for one, then for two: 1, 64 and 2,016 clauses, each a byte shorter for a positive one. */
-static struct clause all_negative(word which)
+static struct clause all_negative(void)
 {
     struct clause all = {0};
     for (int v = 1; v <= MOST_VARIABLES; v++) all.literals[all.count++] = (signed char)-v;
-    if (which > MOST_VARIABLES) {
-        word first = 0, second = which - MOST_VARIABLES - 1;
-        while (second >= MOST_VARIABLES - 1 - first) second -= MOST_VARIABLES - 1 - first++;
-        all.literals[first] = (signed char)-all.literals[first];
-        which = first + second + 2;
-    }
-    if (which > 0) all.literals[which - 1] = (signed char)which;
     return all;
 }
 
@@ -248,15 +149,15 @@ static void draft_longest(struct draft *d)
     *d = (struct draft){.variables = MOST_VARIABLES};
     while (10 * weight * MOST_LOADED <= MOST_WEIGHT) weight *= 10;
     word longer = (MOST_WEIGHT - weight * MOST_LOADED) / (9 * weight);
-    for (word r = 0; r < MOST_LOADED; r++) add_row(d, all_negative(r), r < longer ? 10 * weight : weight);
+    for (word r = 0; r < MOST_LOADED; r++) add_row(d, all_negative(), r < longer ? 10 * weight : weight);
 }
 
 /* That whose competition file is longest: one row has the largest weight, so that top is as long, and all others are hard, and have it. */
 static void draft_longest_file(struct draft *d)
 {
     *d = (struct draft){.variables = MOST_VARIABLES};
-    add_row(d, all_negative(0), MOST_WEIGHT);
-    while (d->rows < MOST_LOADED) add_hard(d, all_negative(d->rows - 1));
+    add_row(d, all_negative(), MOST_WEIGHT);
+    while (d->rows < MOST_LOADED) add_hard(d, all_negative());
 }
 
 /* Bytes that hold the text of so many rows, whatever they are, and their competition file too. */

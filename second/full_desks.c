@@ -10,34 +10,23 @@ enum {
 _Static_assert(LEAST_FORKS >= APART && LEAST_FORKS * FORK_ROWS + (MOST_STEPS - LEAST_FORKS) * SHIFT_ROWS == MOST_CAPACITY - MOST_LOADED,
                "so many forks, and shifts for all other steps, do not fill the largest desk");
 
-/* The rows of so many of the longest forks, which share all rows but their last. From the end of the links, a, there are so many ways to b and
-   as many to c; each of the forks goes one way to each, and no two of them the same two ways. The rows that they share weigh as much as all
-   the last ones together. The result is the first row, that of l1; behind it come the links, the ways to b, the ways to c, the last rows. */
-enum { WAYS = 15, TO_B = MOST_LINKS + 1, TO_C = TO_B + WAYS, LAST_ROWS = TO_C + WAYS, SPRING_VARIABLES = TO_B + 2 * WAYS };
+/* The rows of one of the longest forks, which can be taken so many times: a unit for each, and all other rows weigh as much as these
+   together. The result is the first row, which the first fork names; the other units come behind the fork's rows. */
 static word add_spring(struct chance *c, struct draft *d, word times)
 {
-    word first = d->rows, heavy = 3 * times;
-    int order[MOST_VARIABLES];
-    do {
-        d->rows = first;
-        draw_order(c, order, (int)d->variables);
-        add_row(d, unit_row(order[0]), heavy);
-        for (int i = 1; i < TO_B; i++) add_row(d, pair_row(-order[i - 1], order[i]), heavy);
-        for (int i = TO_B; i < SPRING_VARIABLES; i++) add_row(d, pair_row(-order[TO_B - 1], order[i]), heavy);
-        for (word i = 0; i < times; i++)
-            add_row(d, pair_row(-order[TO_B + i / WAYS], -order[TO_C + i % WAYS]), between(c, 1, 3));
-    } while (repeats_from(d, first));
+    word first = d->rows;
+    add_fork(c, d, MOST_LINKS, 3);
+    for (word i = 1; i < MOST_NAMED; i++) d->words[ROW_WORDS * (first + i) + WEIGHT] = 3 * times;
+    for (word i = 1; i < times; i++) add_row(d, clause_of(d->words + ROW_WORDS * first), between(c, 1, 3));
     return first;
 }
 
 static void take_spring(struct run *r, word first, word times)
 {
     word named[MOST_NAMED];
-    for (word i = 0; i < TO_B; i++) named[i] = first + i;
+    for (word i = 0; i < MOST_NAMED; i++) named[i] = first + i;
     for (word i = 0; i < times; i++) {
-        named[TO_B] = first + TO_B + i / WAYS;
-        named[TO_B + 1] = first + TO_C + i % WAYS;
-        named[TO_B + 2] = first + LAST_ROWS + i;
+        if (i > 0) named[0] = first + MOST_NAMED - 1 + i;
         emit_rewrite(r, FORK, named, MOST_NAMED);
     }
 }
@@ -53,28 +42,26 @@ static void shift_until(struct run *r, word unit, word rows)
 /* Of two rows that hold not 1 and not 2 the one that is opposed to a unit of a shift, which is 1 or 2. */
 static word opposed_to(struct run *r, word unit, word not_one) { return lent_words(r)[row_word(unit, 0)] == 1 ? not_one : not_one + 1; }
 
-/* Rows 0 and 1 are shifted there and back; behind them rows for one of each kind, then a spring; as many in all as may be loaded. Of the last
-   three two are opposed to what is shifted. */
-enum { ENDS = 3, MERGED = 2 + ENDS, FORKED = MERGED + 2, CHAINED = FORKED + MOST_NAMED, SPRING = CHAINED + MOST_LINKS + 2, NOT_ONE = MOST_LOADED - ENDS };
+/* Rows 0 and 1 are shifted there and back; behind them rows for one of each kind, then a spring; as many in all as may be loaded. */
+enum { FORKED = 2, CHAINED = FORKED + MOST_NAMED, MERGED = CHAINED + MOST_LINKS + 2, SPRING = MERGED + 2, NOT_ONE = MOST_LOADED - 3 };
 static void full_desk_draft(struct chance *c, struct draft *d, word forks)
 {
-    *d = (struct draft){.variables = between(c, SPRING_VARIABLES, MOST_VARIABLES)};
+    *d = (struct draft){.variables = between(c, 20, MOST_VARIABLES)};
     add_row(d, unit_row(1), 5);
     add_row(d, pair_row(-1, 2), 5);
+    add_fork(c, d, MOST_LINKS, 3);
+    add_chain(c, d, MOST_LINKS, 3);
+    add_row(d, pair_row(3, -4), 2);
+    add_row(d, pair_row(3, 4), 2);
+    add_spring(c, d, forks);
+    while (d->rows < NOT_ONE) {
+        word length = between(c, 0, 3), weight = between(c, 1, 9);
+        add_row(d, draw_clause(c, d->variables, length), weight);
+        if (length > 0 && one_in(c, 9)) make_hard(d, d->rows - 1);
+    }
     add_row(d, unit_row(-1), 4);
     add_row(d, unit_row(-2), 4);
     add_row(d, unit_row(7), 2);
-    add_row(d, pair_row(3, -4), 2);
-    add_row(d, pair_row(3, 4), 2);
-    add_fork(c, d, MOST_LINKS, 3);
-    add_chain(c, d, MOST_LINKS, 3);
-    add_spring(c, d, forks);
-    while (d->rows < MOST_LOADED) {
-        word length = between(c, 0, 3), before = d->rows;
-        add_new_row(c, d, length, between(c, 1, 9));
-        if (length > 0 && one_in(c, 9)) harden_row(d, before);
-    }
-    for (word i = 0; i < ENDS; i++) swap_rows(d, 2 + i, NOT_ONE + i);
 }
 
 static void run_full_desk(struct run *r)
@@ -136,17 +123,17 @@ static void run_last_named(struct run *r)
 {
     struct chance *c = &r->chance;
     static struct draft d;
-    word forks = LEAST_FORKS + between(c, 4, 10) - APART, unit = 0, not_one = unit + 2;
+    word forks = LEAST_FORKS + between(c, 4, 10) - APART, unit = APART * MOST_NAMED, not_one = unit + 2;
     d = (struct draft){.variables = MOST_VARIABLES};
+    for (int i = 0; i < APART; i++) add_fork(c, &d, MOST_LINKS, 4);
     add_row(&d, unit_row(1), 30);
     add_row(&d, pair_row(-1, 2), 30);
     add_row(&d, unit_row(-1), 9);
     add_row(&d, unit_row(-2), 9);
-    word spring = add_spring(c, &d, forks), apart = d.rows;
-    for (int i = 0; i < APART; i++) add_fork(c, &d, MOST_LINKS, 4);
-    add_random_rows(c, &d, MOST_LOADED - d.rows, 3, 1);
+    word spring = add_spring(c, &d, forks);
+    while (d.rows < MOST_LOADED) add_row(&d, draw_clause(c, d.variables, 3), 1);
     start_desk(r, &d, MOST_CAPACITY, 0);
-    for (word i = 0; i < APART; i++) emit_rows_from(r, FORK, apart + MOST_NAMED * i, MOST_NAMED);
+    for (word i = 0; i < APART; i++) emit_rows_from(r, FORK, MOST_NAMED * i, MOST_NAMED);
     take_spring(r, spring, forks);
     shift_until(r, unit, MOST_CAPACITY);
     meets(r, "C full at its most");

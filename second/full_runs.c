@@ -3,18 +3,13 @@
 
 /* --- full tables --- */
 
-static void full_soft_draft(struct chance *c, struct draft *d, word rows)
+static void full_draft(struct chance *c, struct draft *d, word rows)
 {
     d->variables = one_in(c, 4) ? 63 : MOST_VARIABLES;
     for (word i = 0; i < rows; i++) {
-        word length = one_in(c, 4) ? between(c, 5, d->variables) : between(c, 0, 4);
-        add_new_row(c, d, length, between(c, 1, 1000));
+        word length = one_in(c, 4) ? between(c, 5, d->variables) : between(c, 0, 4), weight = between(c, 1, 1000);
+        add_row(d, draw_clause(c, d->variables, length), weight);
     }
-}
-
-static void full_draft(struct chance *c, struct draft *d, word rows)
-{
-    full_soft_draft(c, d, rows);
     if (rows > 1) harden(c, d);
 }
 
@@ -48,13 +43,14 @@ static void run_bad_marks(struct run *r, const struct draft *d, struct draft *ba
 }
 
 /* Of all rows the last alone is hard: it has no literals, or one that the reading breaks and the walk meets first. */
-static void run_last_hard(struct run *r, struct draft *last)
+static void run_last_hard(struct run *r, const struct draft *d, struct draft *last)
 {
     struct chance *c = &r->chance;
     int literal = one_in(c, 2) ? 1 : -1;
     struct clause hard = one_in(c, 2) ? unit_row(literal) : (struct clause){0};
-    *last = (struct draft){0};
-    full_soft_draft(c, last, MOST_LOADED);
+    *last = *d;
+    for (word row = 0; row < MOST_LOADED; row++)
+        if (is_hard(last->words + ROW_WORDS * row)) last->words[ROW_WORDS * row + WEIGHT] = 1, last->words[ROW_WORDS * row + MARK] = SOFT;
     put_hard(last->words + ROW_WORDS * (MOST_LOADED - 1), &hard);
     emit_table(r, last->words, ROW_WORDS * last->rows);
     call_table(r, last, "the last row hard");
@@ -105,33 +101,7 @@ static void run_full_table(struct run *r)
     emit_table(r, bad.words, ROW_WORDS * bad.rows);
     call_table(r, &bad, "a bad weight");
     run_bad_marks(r, &d, &bad);
-    run_last_hard(r, &bad);
-}
-
-/* Every kind of repeat, in a table of as many rows as may be loaded or of few. */
-static void run_repeats(struct run *r)
-{
-    struct chance *c = &r->chance;
-    static struct draft d, bad;
-    draft_to_repeat(c, &d, one_in(c, 2) ? (word)MOST_LOADED : between(c, 3, 9));
-    emit(r, "lend %d %" PRIu64, MOST_DESK, odd_word(c));
-    for (int i = 0; i < REPEATS; i++) {
-        bad = d;
-        repeats[i].make(c, &bad);
-        emit_table(r, bad.words, ROW_WORDS * bad.rows);
-        call_table(r, &bad, repeats[i].name);
-        meets(r, repeats[i].name);
-        emit(r, "writewcnf %" PRIu64 " %" PRIu64 " 85", bad.variables, text_room(bad.rows));
-    }
-    emit(r, "reach %" PRIu64, desk_size(d.rows) - 1);
-    meets(r, "4 before 22");
-    emit(r, "load %" PRIu64 " %" PRIu64, d.variables, d.rows);
-    meets(r, "22 before 4");
-    emit(r, "writewcnf %" PRIu64 " 0 85", d.variables);
-    meets(r, "22 before 4");
-    emit(r, "write %" PRIu64 " 9 0 85", d.variables);
-    meets(r, "22 before 8");
-    emit(r, "weight %" PRIu64 " %" PRIu64, d.variables, ~(word)0);
+    run_last_hard(r, &d, &bad);
 }
 
 /* Weights whose sum first passes the limit in a given row, and those that just reach it there. */
@@ -141,7 +111,7 @@ static void run_sums(struct run *r)
     static const word places[] = {1, 2, 11, 12, 13, 100, MOST_LOADED - 2, MOST_LOADED - 1};
     word place = places[draw(c) % 8], rows = one_in(c, 2) ? place + 1 : between(c, place + 1, MOST_LOADED), all = 0;
     static struct draft d;
-    d = (struct draft){.variables = between(c, FULL_VARIABLES, MOST_VARIABLES)};
+    d = (struct draft){.variables = between(c, 1, MOST_VARIABLES)};
     add_mixed_rows(c, &d, rows, MOST_WEIGHT / MOST_LOADED - 1);
     for (word i = 0; i < place; i++) all += d.words[ROW_WORDS * i + WEIGHT];
     for (word i = place + 1; i < rows; i++) all += d.words[ROW_WORDS * i + WEIGHT] = 1;
@@ -234,8 +204,7 @@ static void run_steps(struct run *r)
     add_row(&d, pair_row(-1, 2), 5);
     add_row(&d, unit_row(2), 3);
     add_row(&d, unit_row(-2), 3);
-    word capacity = between(c, 2 * MOST_STEPS + 8, 4 * MOST_STEPS - 4), past = draw(c) % 2;
-    start_desk(r, &d, capacity, past);
+    start_desk(r, &d, between(c, 2 * MOST_STEPS + 8, 4 * MOST_STEPS - 4), draw(c) % 2);
     emit(r, "rewrite 2 0 1");
     for (int i = 1; i < MOST_STEPS - 1; i++) emit(r, "rewrite 2 %d %d", 2 * i + 3, 2 * i + 2);
     meets(r, "the last step that may stand");
@@ -402,6 +371,6 @@ static const struct run_family full_families[] = {
     {"entries", run_entries},       {"unformed", run_unformed}, {"longest", run_longest},
     {"full-table", run_full_table}, {"all-variables", run_all_variables}, {"long-search", run_long_search},
     {"full-desk", run_full_desk},   {"last-named", run_last_named}, {"steps", run_steps}, {"last-row", run_last_row},
-    {"ledger", run_ledger},         {"room", run_room},         {"many-rows", run_many_rows}, {"repeats", run_repeats},
+    {"ledger", run_ledger},         {"room", run_room},         {"many-rows", run_many_rows},
 };
 enum { FULL_FAMILIES = sizeof full_families / sizeof *full_families };

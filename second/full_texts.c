@@ -17,10 +17,10 @@ static void draft_long_answer(struct chance *c, struct draft *d)
 /* So many rows on so many variables, few literals to a row. */
 static void draft_many(struct chance *c, struct draft *d, word rows)
 {
-    *d = (struct draft){.variables = one_in(c, 2) ? (word)MOST_VARIABLES : between(c, rows > FEW_ROWS ? FULL_VARIABLES : 1, 63)};
+    *d = (struct draft){.variables = one_in(c, 2) ? (word)MOST_VARIABLES : between(c, 1, 63)};
     for (word i = 0; i < rows; i++) {
-        word length = between(c, 0, 4);
-        add_new_row(c, d, length, between(c, 1, 999));
+        word length = between(c, 0, 4), weight = between(c, 1, 999);
+        add_row(d, draw_clause(c, d->variables, length), weight);
     }
     harden(c, d);
 }
@@ -92,19 +92,18 @@ static void text_heads(struct chance *c, struct lines *l)
     } else {
         d = (struct draft){.variables = between(c, 0, 3)};
         add_mixed_rows(c, &d, between(c, 0, 5), 9);
-        harden(c, &d);
         lines_of(l, &d, budgets[draw(c) % 4]);
     }
 }
 
-/* A row that load refuses, the last or the first among them, or a sum over the limit in some row. One that repeats another is not the first. */
+/* A row that load refuses, the last or the first among them, or a sum over the limit in some row. */
 static void text_bad_row(struct chance *c, struct lines *l)
 {
     static struct draft d;
     draft_many(c, &d, one_in(c, 4) ? between(c, 12, 40) : (word)MOST_INPUT_ROWS);
     word places[] = {0, 11, d.rows - 1, d.rows - 1, draw(c) % d.rows}, place = places[draw(c) % 5], all = 0;
     for (word i = 0; i < d.rows; i++) all += i == place ? 0 : d.words[ROW_WORDS * i + WEIGHT];
-    word *row = d.words + ROW_WORDS * place, how = draw(c) % 6;
+    word *row = d.words + ROW_WORDS * place, how = draw(c) % 5;
     row[MARK] = how == 4 ? HARD : SOFT;
     if (how == 0) row[WEIGHT] = one_in(c, 2) ? 0 : (word)MOST_WEIGHT + 1;
     if (how == 1) row[WEIGHT] = MOST_WEIGHT - all;
@@ -116,7 +115,6 @@ static void text_bad_row(struct chance *c, struct lines *l)
         if (row[WEIGHT] == 0) row[WEIGHT] = 1;
     }
     if (how == 4) row[WEIGHT] = one_in(c, 2) ? 1 : (word)MOST_WEIGHT;
-    if (how == 5) repeat_row(c, &d, place == 0 ? 0 : draw(c) % place, place == 0 ? d.rows - 1 : place);
     lines_of(l, &d, between(c, 0, 9));
 }
 

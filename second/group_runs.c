@@ -27,6 +27,16 @@ static void run_few(struct run *r)
     }
 }
 
+/* So many variables in an order drawn, as literals. */
+static void draw_order(struct chance *c, int *literals, int count)
+{
+    for (int v = 1; v <= count; v++) literals[v - 1] = one_in(c, 2) ? v : -v;
+    for (int i = count - 1; i > 0; i--) {
+        int j = (int)(draw(c) % (word)(i + 1)), held = literals[i];
+        literals[i] = literals[j], literals[j] = held;
+    }
+}
+
 static void shuffle_rows(struct chance *c, struct draft *d)
 {
     for (word i = d->rows; i-- > 1;) swap_rows(d, i, draw(c) % (i + 1));
@@ -42,10 +52,7 @@ static void run_through_all(struct run *r)
     add_row(&d, unit_row(order[0]), between(c, 1, 9));
     for (int i = 1; i < count; i++) add_row(&d, pair_row(-order[i - 1], order[i]), between(c, 1, 9));
     add_row(&d, unit_row(-order[count - 1]), between(c, 1, 9));
-    if (one_in(c, 2)) {
-        word rows = between(c, 1, 40), length = between(c, 2, 4);
-        add_random_rows(c, &d, rows, length, 9);
-    }
+    if (one_in(c, 2)) add_random_rows(c, &d, between(c, 1, 40), between(c, 2, 4), 9);
     harden(c, &d);
     if (!one_in(c, 3)) shuffle_rows(c, &d);
     start_desk(r, &d, 3, 0);
@@ -68,7 +75,7 @@ static void lighten(struct chance *c, struct draft *d)
     d->words[ROW_WORDS * row + WEIGHT] = between(c, 1, 40);
 }
 
-/* One row that needs every variable, and at times one that needs all but one, and units for them: groups of up to 65 rows, the conflict first, last or between. */
+/* One row or two that need every variable, and units for them: groups of up to 65 rows, the conflict first, last or between. */
 static void run_one_needs_all(struct run *r)
 {
     struct chance *c = &r->chance;
@@ -79,7 +86,6 @@ static void run_one_needs_all(struct run *r)
     for (int i = 0; i < count; i++) all.literals[all.count++] = (signed char)-order[i];
     for (int i = 0; i < count; i++) add_row(&d, unit_row(order[i]), between(c, 60, 90));
     add_row(&d, all, between(c, 1, 30));
-    all.count--; /* and one that needs all but the last of them */
     if (!one_in(c, 4)) add_row(&d, all, between(c, 1, 30));
     shuffle_rows(c, &d);
     lighten(c, &d);

@@ -42,13 +42,13 @@ static void check_hard_searches(struct tally *t)
     check(t, losses_are(d, 0, 0, 0), "bounds pass over them");
     d = load_rows(1, "500000000: 1; 500000000: -1", 2);
     check(t, search_gives(d, 100, true, 500000000, 1, 3), "of two large weights one is given up");
-    d = load_rows(1, "9: 1; h: -1", 2);
-    check(t, search_gives(d, 100, true, 9, 0, 3) && losses_are(d, 0, 0, 0), "a hard row against a heavy one");
+    d = load_rows(1, "7: 1; h: -1; 2: 1", 3);
+    check(t, search_gives(d, 100, true, 9, 0, 3) && losses_are(d, 0, 0, 0), "a hard row against heavier ones");
     d = load_rows(0, "h:", 1);
     check(t, is_impossible(d, UNITS, 1) && losses_are(d, 0, 0, 0) && stops_with_none(d, 0), "an empty hard row");
     d = load_rows(3, "h: 3; h: -3", 2);
     check(t, is_impossible(d, UNITS, 15) && is_impossible(d, GROUPS, 15), "a clash on the last variable");
-    d = load_rows(2, "7: 1; h: -1 2; h: -1 -2", 3);
+    d = load_rows(2, "3: 1; h: -1 2; h: -1 -2; 4: 1", 4);
     check(t, search_gives(d, 100, true, 7, 2, 7), "the cut is met at the leaves");
     decide(d, 1);
     check(t, is_impossible(d, UNITS, 3) && losses_are(d, 0, 0, 0), "a decision that leaves none");

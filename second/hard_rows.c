@@ -1,5 +1,5 @@
-/* Part of second.c: hard rows in tables that are drawn, document 02's C-16: a few among the others, many, some with the literals of a soft one,
-   and such that no reading satisfies them all, which a walk finds at once, near its root or only far down. None is there twice. */
+/* Part of second.c: hard rows in tables that are drawn, document 02's C-16: a few among the others, many, and such that no reading satisfies
+   them all, which a walk finds at once, near its root or only far down. */
 
 static void make_hard(struct draft *d, word row)
 {
@@ -16,27 +16,18 @@ static void swap_rows(struct draft *d, word i, word j)
     }
 }
 
-/* Unless a hard row has its literals already. */
-static void harden_row(struct draft *d, word row)
-{
-    struct clause c = clause_of(d->words + ROW_WORDS * row);
-    if (!has_row(d, &c, HARD)) make_hard(d, row);
-}
-
-/* Anywhere in a table of few rows, which has one more then; in place of a row in one of many, whose count may be what it is drawn for. Nowhere
-   where it is there already. */
+/* Anywhere in a table of few rows, which has one more then; in place of a row in one of many, whose count may be what it is drawn for. */
 enum { FEW_ROWS = 64 };
 static void place_hard(struct chance *c, struct draft *d, struct clause hard)
 {
     word row = d->rows;
-    if (has_row(d, &hard, HARD)) return;
     if (row < FEW_ROWS) add_hard(d, hard), swap_rows(d, row, draw(c) % (row + 1));
     else put_hard(d->words + ROW_WORDS * (draw(c) % row), &hard);
 }
 
 static void harden_rows(struct chance *c, struct draft *d, word count)
 {
-    for (; count > 0 && d->rows > 0; count--) harden_row(d, draw(c) % d->rows);
+    for (; count > 0 && d->rows > 0; count--) make_hard(d, draw(c) % d->rows);
 }
 
 static void place_hard_rows(struct chance *c, struct draft *d, word count, word length)
@@ -63,12 +54,6 @@ static void place_deep_clash(struct chance *c, struct draft *d, word last)
     }
 }
 
-/* With the literals of a row that is there, mostly a soft one. */
-static void place_twins(struct chance *c, struct draft *d, word count)
-{
-    for (; count > 0 && d->rows > 0; count--) place_hard(c, d, clause_of(d->words + ROW_WORDS * (draw(c) % d->rows)));
-}
-
 /* Hard rows that no reading satisfies. */
 static void place_impossible(struct chance *c, struct draft *d)
 {
@@ -82,12 +67,11 @@ static void place_impossible(struct chance *c, struct draft *d)
 static void harden(struct chance *c, struct draft *d)
 {
     if (d->variables > MOST_VARIABLES || !one_in(c, 3)) return;
-    switch (draw(c) % 8) {
+    switch (draw(c) % 7) {
     case 0: case 1: harden_rows(c, d, between(c, 1, 3)); break;
     case 2: harden_rows(c, d, d->rows / 2 + 1); break;
     case 3: place_hard_rows(c, d, between(c, 1, 4), 2); break;
     case 4: place_hard_rows(c, d, between(c, 1, 9), 3); break;
-    case 5: place_twins(c, d, between(c, 1, 3)); break;
     default: place_impossible(c, d); break;
     }
 }

@@ -41,7 +41,7 @@ static void check_searches(struct tally *t, struct chance *c)
 struct steps_done {
     int accepted[FORK + 1];
     int links[FORK + 1][MOST_LINKS + 1];
-    int refused[23];
+    int refused[21];
 };
 
 /* The weights of all readings that keep the standing decisions; others are passed over. */
@@ -114,10 +114,10 @@ static void check_all_taken_back(struct tally *t, struct lent d, const word *loa
 static void check_steps(struct tally *t, struct chance *c, struct steps_done *done)
 {
     static word loaded[MOST_DESK];
-    for (int i = 0; i < 700; i++) {
+    for (int i = 0; i < 500; i++) {
         struct draft d = {0};
         word most = between(c, 1, 6);
-        draft_for_steps(c, &d, between(c, 1, 8), most);
+        draft_for_steps(c, &d, between(c, 1, 6), most);
         struct lent desk = load_draft(&d, d.rows + between(c, 0, 60));
         memcpy(loaded, desk.words, desk.count * sizeof(word));
         for (int step = 0; step < 14; step++) check_step(t, c, desk, done);
@@ -140,13 +140,12 @@ static void check_round_trip(struct tally *t, struct chance *c)
     static char text[MOST_TEXT];
     static word words[ROW_WORDS * MOST_LOADED + 1];
     for (int i = 0; i < 1000; i++) {
-        bool full = one_in(c, 30);
-        struct draft d = {.variables = one_in(c, 9) ? MOST_VARIABLES : between(c, full ? FULL_VARIABLES : 0, 9)};
+        struct draft d = {.variables = one_in(c, 9) ? MOST_VARIABLES : between(c, 0, 9)};
         struct header head;
         size_t length;
         uint32_t budget = (uint32_t)draw(c);
         word most = one_in(c, 2) ? 9 : MOST_WEIGHT / MOST_LOADED;
-        add_mixed_rows(c, &d, full ? MOST_LOADED : between(c, 0, 12), most);
+        add_mixed_rows(c, &d, one_in(c, 30) ? MOST_LOADED : between(c, 0, 12), most);
         harden(c, &d);
         word count = ROW_WORDS * d.rows;
         check(t, is(write_text(table_of(&d), budget, text, MOST_TEXT, &length), 0, 0), "the writer takes the table");

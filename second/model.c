@@ -99,14 +99,6 @@ static bool mark_is_bad(const word *row) { return row[MARK] > HARD || (is_hard(r
 
 static bool weight_is_bad(const word *row) { return !is_hard(row) && (row[WEIGHT] == 0 || row[WEIGHT] > MOST_WEIGHT); }
 
-/* The first of so many rows that has the literals and the mark of this one, whatever their weights; so many, where there is none. */
-static word equal_row(const word *rows, word count, const word *row)
-{
-    word r = 0;
-    while (r < count && !(rows[ROW_WORDS * r] == row[0] && rows[ROW_WORDS * r + 1] == row[1] && rows[ROW_WORDS * r + MARK] == row[MARK])) r++;
-    return r;
-}
-
 static struct refusal judge_rows(struct table t)
 {
     sum all = 0;
@@ -115,7 +107,6 @@ static struct refusal judge_rows(struct table t)
         struct clause c = clause_of(row);
         if (!clause_fits(&c, t.variables)) return refused_at(5, r);
         if (mark_is_bad(row) || weight_is_bad(row)) return refused_at(6, r);
-        if (equal_row(t.words, r, row) < r) return refused_at(22, r);
         all += row[WEIGHT];
     }
     return all > MOST_WEIGHT ? refused(7) : accepted();

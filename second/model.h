@@ -1,5 +1,5 @@
-/* The model of document 01, written from its text: tables, the desk, its steps, the bound, the walk and the text; and document 02's files,
-   hard rows and repeated rows.
+/* The model of document 01, written from its text: tables, the desk, its steps, the bound, the walk and the text; and document 02's files and
+   hard rows.
    It prefers the obvious to the fast: a clause is a list of literals and a partial reading a list of values.
    Every figure that document 01 limits something with stands here and nowhere else. */
 #ifndef MODEL_H
@@ -30,8 +30,8 @@ enum {
     ENTRIES_WORDS = MOST_STEPS * ENTRY_WORDS,
     MOST_DESK = HEAD_WORDS + ROW_WORDS * MOST_CAPACITY + ENTRIES_WORDS,
     MOST_ANSWER = 1024,
-    MOST_TEXT = 555993, /* the longest text of an admissible table: 883 weights of 7 digits and 1,165 of 6, no row hard */
-    MOST_FILE = 528478  /* the longest competition file of one: a weight of 10 digits, all other rows hard, with a top of 10 digits */
+    MOST_TEXT = 560023, /* the longest text of an admissible table: 883 weights of 7 digits and 1,165 of 6, no row hard */
+    MOST_FILE = 532506  /* the longest competition file of one: a weight of 10 digits, all other rows hard, with a top of 10 digits */
 };
 #define MOST_BUDGET 4294967295u
 
@@ -94,10 +94,9 @@ struct header {
     word rows;
 };
 
-/* The three numbers of a competition file's header, and the rows that its clauses make: fewer, where clauses are equal. */
+/* The three numbers of a competition file's header. */
 struct figures {
     word variables, clauses, top;
-    word rows;
 };
 
 /* Where a bound comes from, document 02's C-12. */
@@ -151,7 +150,7 @@ struct refusal write_text(struct table t, uint32_t budget, char *out, size_t roo
 size_t program_answer(const unsigned char *input, size_t length, char *out);
 struct refusal answer_text(const unsigned char *input, size_t length, char *out, size_t room, size_t *written);
 
-/* Competition files, document 02's C-11 and C-17. The front door searches with MOST_BUDGET; a smaller budget shows what a stopped search answers. */
+/* Competition files, document 02's C-11. The front door searches with MOST_BUDGET; a smaller budget shows what a stopped search answers. */
 struct refusal read_wcnf(const unsigned char *text, size_t length, struct lent out, struct figures *figures);
 struct refusal write_wcnf(struct table t, char *out, size_t room, size_t *length);
 /* At most MOST_ANSWER bytes; the result is their number. */

@@ -144,14 +144,13 @@ static void spoil_table(struct chance *c, struct draft *d, word *count)
 {
     if (d->rows == 0) return;
     word row = ROW_WORDS * (draw(c) % d->rows), flipped = (word)1 << draw(c) % 64;
-    switch (draw(c) % 9) {
+    switch (draw(c) % 7) {
     case 0: d->words[row + WEIGHT] = odd_word(c); break;
     case 1: d->words[row + draw(c) % 2] ^= flipped; break;
     case 2: d->words[row + 1] |= d->words[row]; break;
     case 3: *count -= *count < 2 ? 0 : between(c, 1, ROW_WORDS - 1); break;
     case 4: d->words[row + MARK] = odd_word(c); break;
     case 5: d->words[row + MARK] = HARD; break;
-    case 6: case 7: if (d->rows > 1) repeat_any(c, d); break;
     default: bring_sum_to_limit(d, draw(c) % 2); break;
     }
 }
@@ -161,9 +160,8 @@ static void run_loads(struct run *r)
 {
     struct chance *c = &r->chance;
     for (int i = 0; i < 12; i++) {
-        bool full = one_in(c, 20);
-        struct draft d = {.variables = full ? between(c, FULL_VARIABLES, MOST_VARIABLES) : between(c, 0, 7)};
-        add_mixed_rows(c, &d, full ? between(c, MOST_LOADED - 3, MOST_LOADED + 3) : between(c, 0, 12), 5);
+        struct draft d = {.variables = between(c, 0, 7)};
+        add_mixed_rows(c, &d, one_in(c, 20) ? between(c, MOST_LOADED - 3, MOST_LOADED + 3) : between(c, 0, 12), 5);
         harden(c, &d);
         word count = ROW_WORDS * d.rows, capacity = one_in(c, 3) ? odd_word(c) : d.rows + draw(c) % 4 - 1;
         for (word n = draw(c) % 3; n > 0; n--) spoil_table(c, &d, &count);
@@ -175,7 +173,6 @@ static void run_loads(struct run *r)
         emit(r, "weight %" PRIu64 " %" PRIu64, d.variables, draw(c) % 256);
         word budget = one_in(c, 2) ? MOST_BUDGET : draw(c) % ((word)MOST_BUDGET + 1);
         emit(r, "write %" PRIu64 " %" PRIu64 " %" PRIu64 " 170", one_in(c, 8) ? odd_word(c) : d.variables, budget, room);
-        emit(r, "writewcnf %" PRIu64 " %" PRIu64 " 170", one_in(c, 8) ? odd_word(c) : d.variables, room);
         emit(r, "wellformed");
         emit_bounds(r);
     }

@@ -33,7 +33,7 @@
      CONCEDED LOST FORESEEN CHECK          bound; lost: beyond conceded
      done WEIGHT READING NODES CHECK       search; or stopped or impossible; weight and reading may be `none`
      ok VARS BUDGET ROWS CHECK             read
-     ok VARS ROWS CHECK                    readwcnf
+     ok VARS CLAUSES CHECK                 readwcnf
      ok LENGTH CHECK                       write, writewcnf, answer
      refused NUMBER PLACE CHECK            any of them
    The checksum is over all the words lent, those out of reach and past the desk too; for the readers over their ROOM words,

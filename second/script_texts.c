@@ -20,7 +20,7 @@ static void call_read(struct bench *b, struct line *l, FILE *out)
 static void call_read_wcnf(struct bench *b, struct line *l, FILE *out)
 {
     word room = next_number(l), fill = next_number(l);
-    struct figures figures = {0, 0, 0, 0};
+    struct figures figures = {0, 0, 0};
     char text[60];
     if (l->broken || room > MOST_LENT) {
         l->broken = true;
@@ -29,7 +29,7 @@ static void call_read_wcnf(struct bench *b, struct line *l, FILE *out)
     word *words = room_for(room * sizeof *words);
     for (word i = 0; i < room; i++) words[i] = fill;
     struct refusal no = read_wcnf(b->text, b->text_length, (struct lent){words, room}, &figures);
-    snprintf(text, sizeof text, "ok %" PRIu64 " %" PRIu64, figures.variables, figures.rows);
+    snprintf(text, sizeof text, "ok %" PRIu64 " %" PRIu64, figures.variables, figures.clauses);
     show_outcome(out, no, text, check_words(words, room));
     free(words);
 }

@@ -4,7 +4,7 @@
      second answer FILE..                      each file's, to FILE.expected
      second copy < TEXT                        the text's table written anew, or nothing where that is refused; or FILE.., to FILE.copied
      second wcnf < TEXT                        the front door's answer to a competition file; or FILE.., to FILE.expected
-     second wcnf-read < TEXT                   `ok VARS ROWS` and the words of each row, or `refused NUMBER PLACE`; or FILE.., to FILE.read
+     second wcnf-read < TEXT                   `ok VARS CLAUSES` and the words of each row, or `refused NUMBER PLACE`; or FILE.., to FILE.read
      second wcnf-copy < TEXT                   the table written anew, or nothing where that is refused; or FILE.., to FILE.copied
      second desk < SCRIPT                      a script of calls on a desk (the language is at the top of script.c)
      second desk FILE..                        each file's, to FILE.expected
@@ -31,7 +31,6 @@
 #include "script.c"
 #include "chance.c"
 #include "hard_rows.c"
-#include "repeats.c"
 #include "texts.c"
 #include "wcnf_texts.c"
 #include "runs.c"
@@ -91,8 +90,8 @@ static int run_wcnf_read(FILE *in, FILE *to)
     struct figures f;
     struct refusal no = read_table(in, words, &f);
     if (no.number != 0) return fprintf(to, "refused %u %" PRIu64 "\n", no.number, no.place) > 0 ? 0 : 2;
-    fprintf(to, "ok %" PRIu64 " %" PRIu64 "\n", f.variables, f.rows);
-    for (const word *row = words; row < words + ROW_WORDS * f.rows; row += ROW_WORDS)
+    fprintf(to, "ok %" PRIu64 " %" PRIu64 "\n", f.variables, f.clauses);
+    for (const word *row = words; row < words + ROW_WORDS * f.clauses; row += ROW_WORDS)
         fprintf(to, "%" PRIu64 " %" PRIu64 " %" PRIu64 " %" PRIu64 "\n", row[0], row[1], row[WEIGHT], row[MARK]);
     return ferror(to) ? 2 : 0;
 }
@@ -104,7 +103,7 @@ static int run_wcnf_copy(FILE *in, FILE *to)
     struct figures f;
     size_t written;
     if (read_table(in, words, &f).number != 0) return 0;
-    if (write_wcnf((struct table){f.variables, words, ROW_WORDS * f.rows}, text, sizeof text, &written).number != 0) return 0;
+    if (write_wcnf((struct table){f.variables, words, ROW_WORDS * f.clauses}, text, sizeof text, &written).number != 0) return 0;
     return fwrite(text, 1, written, to) == written ? 0 : 2;
 }
 

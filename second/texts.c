@@ -130,7 +130,7 @@ static word draft_wide(struct chance *c, struct draft *d)
     d->variables = one_in(c, 3) ? between(c, 20, 63) : MOST_VARIABLES;
     word length = between(c, 1, 3);
     add_random_rows(c, d, between(c, 1, 90), length, 9);
-    if (!one_in(c, 3)) add_mixed_rows(c, d, between(c, 0, 60), 9);
+    add_mixed_rows(c, d, between(c, 0, 60), 9);
     harden(c, d);
     return between(c, 0, 400);
 }
@@ -138,12 +138,12 @@ static word draft_wide(struct chance *c, struct draft *d)
 /* About as many rows as the program takes, or as the reader does. */
 static word draft_full(struct chance *c, struct draft *d)
 {
-    d->variables = one_in(c, 4) ? FULL_VARIABLES : between(c, FULL_VARIABLES, MOST_VARIABLES);
+    d->variables = between(c, 1, MOST_VARIABLES);
     word length = between(c, 0, 6);
     word rows = one_in(c, 5) ? between(c, MOST_LOADED - 3, MOST_LOADED + 2) : between(c, MOST_INPUT_ROWS - 7, MOST_INPUT_ROWS + 2);
     add_random_rows(c, d, rows, length, 1000);
     harden(c, d);
-    return d->variables == FULL_VARIABLES && one_in(c, 2) ? MOST_BUDGET : between(c, 0, 60);
+    return between(c, 0, 60);
 }
 
 /* A soft row of no weight, or a hard one with some. */
@@ -177,19 +177,6 @@ static word draft_above(struct chance *c, struct draft *d)
     return between(c, 0, 50);
 }
 
-/* A row that repeats an earlier one, and what else comes with it. */
-static word draft_again(struct chance *c, struct draft *d)
-{
-    draft_to_repeat(c, d, between(c, 3, 12));
-    repeats[draw(c) % REPEATS].make(c, d);
-    for (word r = 0; r < d->rows; r++) { /* no text has these: both ways, and a mark that is none */
-        word *row = d->words + ROW_WORDS * r;
-        if ((row[0] & row[1]) != 0) row[0] &= ~row[1], row[WEIGHT] = 0, row[MARK] = SOFT;
-        if (row[MARK] > HARD) row[MARK] = HARD, row[WEIGHT] = 1;
-    }
-    return d->variables > 9 ? between(c, 0, 50) : draw_budget(c);
-}
-
 static word draft_heads(struct chance *c, struct draft *d)
 {
     static const word variables[] = {64, 65, 66, 4294967296, 9999999999}, budgets[] = {4294967295, 4294967296, 9999999999};
@@ -200,19 +187,18 @@ static word draft_heads(struct chance *c, struct draft *d)
     return budget;
 }
 
-/* A text of exactly so many bytes: in each row literals, while its share of them lasts, then digits of one weight. */
+/* A text of exactly so many bytes: literals while they fit, then digits of one weight. */
 static void lines_of_length(struct lines *l, struct chance *c, size_t length)
 {
     struct draft d = {.variables = MOST_VARIABLES};
     for (int r = 0; r < 300; r++) add_row(&d, (struct clause){0}, 1);
     lines_of(l, &d, between(c, 0, 20));
-    size_t now = length_of(l), bare = now, rows = 0;
+    size_t now = length_of(l);
     for (int i = row_line(0) + LITERALS_LINE; i < l->count; i += ROW_LINES) {
-        size_t share = bare + (length - bare) * ++rows / d.rows;
         for (int v = 1; v <= MOST_VARIABLES; v++) {
             char literal[8];
             size_t more = (size_t)sprintf(literal, "%s%d", v > 1 ? " " : "", one_in(c, 2) ? v : -v);
-            if (now + more > share) continue;
+            if (now + more > length) continue;
             strcat(l->text[i], literal);
             now += more;
         }
@@ -229,7 +215,7 @@ static const struct family families[] = {
     {"max2", draft_max2},         {"max3", draft_max3},     {"mixed", draft_mixed}, {"clashing", draft_clashing},
     {"repeated", draft_repeated}, {"limits", draft_limits}, {"wide", draft_wide},   {"full", draft_full},
     {"odd-weight", draft_odd_weight}, {"above", draft_above}, {"heads", draft_heads}, {"max2", draft_max2},
-    {"max3", draft_max3},         {"again", draft_again},
+    {"max3", draft_max3},
 };
 enum { FAMILIES = sizeof families / sizeof *families };
 

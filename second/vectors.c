@@ -1,6 +1,6 @@
 /* Part of second.c: runs the vectors of the source documents. The form of a line is explained at the top of vectors.txt. */
 
-enum { VECTOR_FIELDS = 6, LEAST_VECTORS = 141 };
+enum { VECTOR_FIELDS = 6, LEAST_VECTORS = 117 };
 static const char *const vector_kinds[] = {"decide", "merge", "shift", "chain", "fork"};
 
 static char *without_spaces(char *text)
@@ -47,35 +47,6 @@ static bool take_vector_step(struct lent d, const char *step)
         step = end;
     }
     return rewrite(d, kind, named, count).number == 0;
-}
-
-/* The clauses of a competition file with this top, as a file. */
-static size_t file_from(word variables, const char *rows, word top, unsigned char *text)
-{
-    static struct competition w;
-    struct chance none = {0};
-    struct draft clauses = draft_from(variables, rows);
-    competition_of(&none, &w, &clauses, top, PLAIN);
-    return competition_bytes(&w, text);
-}
-
-/* The table of a vector's rows, or what is read from a file of them; false if that is refused. */
-static bool draft_of(char **fields, struct draft *d)
-{
-    static unsigned char text[MOST_COMPETITION];
-    struct figures f = {0, 0, 0, 0};
-    word variables = strtoull(fields[2], NULL, 10), top;
-    char *rows = fields[3];
-    if (!begins(rows, "top ")) {
-        *d = draft_from(variables, rows);
-        return true;
-    }
-    top = strtoull(rows + 4, &rows, 10);
-    size_t length = file_from(variables, rows, top, text);
-    *d = (struct draft){.variables = variables};
-    bool read = read_wcnf(text, length, (struct lent){d->words, ROW_WORDS * MOST_LOADED}, &f).number == 0;
-    d->rows = f.rows;
-    return read;
 }
 
 static bool is_left(const word *desk, word row, struct clause *remnant)
@@ -163,36 +134,11 @@ static bool result_holds(struct lent d, char *result)
     return false;
 }
 
-static bool table_is(const struct draft *d, char *rows)
-{
-    for (char *p = rows; *p != 0; p++)
-        if (*p == ',') *p = ';';
-    struct draft wanted = draft_from(d->variables, rows);
-    return d->rows == wanted.rows && memcmp(d->words, wanted.words, ROW_WORDS * d->rows * sizeof(word)) == 0;
-}
-
-/* Load refuses the table, and so do weight of a reading and both writers. */
-static bool all_refuse(const struct draft *d, const char *result)
-{
-    unsigned number;
-    word place;
-    return sscanf(result, "refused %u %" SCNu64, &number, &place) == 2 && number != 0 && all_give(d, number, place);
-}
-
 /* The first thing that does not hold, or NULL. */
 static const char *run_vector(char **fields)
 {
     char *parts[40];
-    static struct draft d;
-    if (!draft_of(fields, &d)) return "the clauses are not read";
-    if (begins(fields[5], "table ")) {
-        char *rest = strchr(fields[5], ';');
-        if (rest != NULL) *rest++ = 0;
-        if (!table_is(&d, fields[5] + 6)) return "the table read";
-        if (rest == NULL) return NULL;
-        fields[5] = without_spaces(rest);
-    }
-    if (begins(fields[5], "refused ")) return all_refuse(&d, fields[5]) ? NULL : fields[5];
+    struct draft d = draft_from(strtoull(fields[2], NULL, 10), fields[3]);
     if (load((struct lent){test_words, MOST_DESK}, table_of(&d), 100).number != 0) return "the rows do not load";
     struct lent desk = {test_words, desk_size(100)};
     int count = *fields[4] == 0 ? 0 : cut_into(fields[4], ';', parts, 40);
@@ -207,22 +153,12 @@ static const char *run_vector(char **fields)
 /* The calls of a vector as a script, and the desk after them. */
 static void write_script(char **fields, FILE *out)
 {
-    static unsigned char text[MOST_COMPETITION];
-    static struct draft d;
-    char *steps[40], *rows;
-    draft_of(fields, &d);
-    if (begins(fields[3], "top ")) {
-        word top = strtoull(fields[3] + 4, &rows, 10);
-        size_t length = file_from(d.variables, rows, top, text);
-        fputs("text ", out);
-        for (size_t i = 0; i < length; i++) fprintf(out, "%02x", text[i]);
-        fputs("\nreadwcnf 400 6\n", out);
-    }
+    char *steps[40];
+    struct draft d = draft_from(strtoull(fields[2], NULL, 10), fields[3]);
     int count = *fields[4] == 0 ? 0 : cut_into(fields[4], ';', steps, 40);
     fputs("table", out);
     for (word i = 0; i < ROW_WORDS * d.rows; i++) fprintf(out, " %" PRIu64, d.words[i]);
     fprintf(out, "\nlend %" PRIu64 " 1\nload %" PRIu64 " 100\n", desk_size(100), d.variables);
-    fprintf(out, "weight %" PRIu64 " 0\nwrite %" PRIu64 " 9 9999 85\nwritewcnf %" PRIu64 " 9999 85\n", d.variables, d.variables, d.variables);
     for (int i = 0; i < count; i++) {
         const char *step = steps[i];
         word kind = kind_of(&step);

@@ -1,5 +1,5 @@
-/* Part of model.c: competition files, requests C-11, C-16 and C-17 of document 02: the reader, the writer and the answer of the front door
-   `./wcnf`. A clause that weighs top or more is a hard row, and equal clauses are one. Each judges everything before it writes. What takes and puts bytes is text.c's. */
+/* Part of model.c: competition files, requests C-11 and C-16 of document 02: the reader, the writer and the answer of the front door `./wcnf`.
+   A clause that weighs top or more is a hard row. Each judges everything before it writes. What takes and puts bytes is text.c's. */
 
 /* One space or more. */
 static bool take_gap(struct cursor *c)
@@ -46,19 +46,6 @@ static bool take_clause(struct cursor *c, word variables, word *row, bool *fits)
     return take_end(c);
 }
 
-/* A row behind those that are made already; or, where one of them has its literals and mark, that one with its weight besides. A hard row has
-   none to give. The number of rows made then is the result. */
-static word make_row(word *rows, word made, const word *row)
-{
-    word first = equal_row(rows, made, row);
-    if (first < made) {
-        rows[ROW_WORDS * first + WEIGHT] += row[WEIGHT];
-        return made;
-    }
-    memcpy(rows + ROW_WORDS * made, row, ROW_WORDS * sizeof *row);
-    return made + 1;
-}
-
 /* A file of so many clauses at most. */
 static struct refusal read_wcnf_within(word most, const unsigned char *text, size_t length, struct lent out, struct figures *figures)
 {
@@ -69,18 +56,16 @@ static struct refusal read_wcnf_within(word most, const unsigned char *text, siz
     if (f.variables > MOST_VARIABLES) return refused(1);
     if (f.clauses > most) return refused(2);
     if (out.count < ROW_WORDS * f.clauses) return refused(4);
-    f.rows = 0;
     for (word r = 0; r < f.clauses; r++) {
         bool fits;
-        word row[ROW_WORDS];
+        word *row = words + ROW_WORDS * r;
         if (!take_clause(&c, f.variables, row, &fits)) return refused_at(20, c.line);
         if (!fits) return refused_at(5, r);
         row[MARK] = row[WEIGHT] >= f.top ? HARD : SOFT;
         if (is_hard(row)) row[WEIGHT] = 0;
-        f.rows = make_row(words, f.rows, row);
     }
     if (c.at != c.length) return refused_at(20, c.line);
-    for (word i = 0; i < ROW_WORDS * f.rows; i++) out.words[i] = words[i];
+    for (word i = 0; i < ROW_WORDS * f.clauses; i++) out.words[i] = words[i];
     *figures = f;
     return accepted();
 }
@@ -167,8 +152,8 @@ static struct refusal solve_wcnf(const unsigned char *input, size_t length, uint
     if (length > MOST_INPUT) return refused(19);
     struct refusal no = read_wcnf_within(MOST_INPUT_ROWS, input, length, (struct lent){words, ROW_WORDS * MOST_INPUT_ROWS}, &figures);
     if (no.number != 0) return no;
-    struct table t = {figures.variables, words, ROW_WORDS * figures.rows};
-    no = load((struct lent){desk, MOST_DESK}, t, figures.rows);
+    struct table t = {figures.variables, words, ROW_WORDS * figures.clauses};
+    no = load((struct lent){desk, MOST_DESK}, t, figures.clauses);
     if (no.number != 0) return no;
     *variables = figures.variables;
     return search((struct lent){desk, MOST_DESK}, UNITS, budget, f);

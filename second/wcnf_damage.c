@@ -240,24 +240,14 @@ enum {
 /* --- a file, and one kind of damage --- */
 
 /* A few clauses, now and then with many comments before them, or nearly as many clauses as the front door takes. */
-static void make_whole(struct chance *c, struct broken *b, unsigned manner)
+static void make_whole(struct chance *c, struct broken *b)
 {
-    bool full = one_in(c, 8);
-    b->d = (struct draft){.variables = one_in(c, 8) ? (word)MOST_VARIABLES : full ? FULL_VARIABLES : between(c, 2, 6)};
-    add_mixed_rows(c, &b->d, full ? MOST_INPUT_ROWS - 1 : between(c, 2, 8), 9);
+    b->d = (struct draft){.variables = one_in(c, 8) ? (word)MOST_VARIABLES : between(c, 2, 6)};
+    add_mixed_rows(c, &b->d, one_in(c, 8) ? MOST_INPUT_ROWS - 1 : between(c, 2, 8), 9);
     harden(c, &b->d);
-    clauses_of(c, manner, MOST_INPUT_ROWS - 1, &b->d);
     b->top = draw_top(c, &b->d);
-    competition_of(c, b->w, &b->d, b->top, manner);
+    competition_of(c, b->w, &b->d, b->top, one_in(c, 2) ? ALL_MANNERS : PLAIN);
     if (b->d.rows < 10 && one_in(c, 6)) b->w->bare = between(c, 1, 30000);
-}
-
-/* Whether a row other than this has no literals, or x1 alone, as the clauses of weight 0 have: these would be one with it. */
-static bool stands_beside(const struct broken *b, word clause)
-{
-    for (word r = 0; r < b->d.rows; r++)
-        if (r != clause && b->d.words[ROW_WORDS * r] <= 1 && b->d.words[ROW_WORDS * r + 1] == 0) return true;
-    return false;
 }
 
 /* A line of the template's stands in the file; the result is the place. */
@@ -272,12 +262,8 @@ static word damage_line(struct broken *b, const struct competition_damage *how, 
 static struct refusal damage_competition(struct chance *c, int turn, struct competition *w, char *kind)
 {
     struct broken b = {.w = w};
-    int number = turn % COMPETITION_DAMAGES, clause;
-    bool weightless = number >= HEADER_DAMAGES && number < HEADER_DAMAGES + CLAUSE_DAMAGES && clause_damages[number - HEADER_DAMAGES].number == 6;
-    do {
-        make_whole(c, &b, one_in(c, 2) ? PLAIN : weightless ? ALL_MANNERS - DIVIDED : ALL_MANNERS);
-        clause = (int)(draw(c) % b.d.rows);
-    } while (weightless && stands_beside(&b, (word)clause));
+    make_whole(c, &b);
+    int number = turn % COMPETITION_DAMAGES, clause = (int)(draw(c) % b.d.rows);
     if (number < HEADER_DAMAGES) {
         const struct competition_damage *how = &header_damages[number];
         sprintf(kind, "damage-header-%s", how->name);

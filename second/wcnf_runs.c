@@ -17,16 +17,6 @@ static void emit_readings(struct run *r, word clauses)
     emit(r, "readwcnf %" PRIu64 " %" PRIu64, words + draw(&r->chance) % 9, fill);
 }
 
-/* Where equal clauses made fewer rows than there are clauses: into room for all clauses, and for the rows alone, which is too little. */
-static void emit_merging(struct run *r, const struct figures *f)
-{
-    word fill = odd_word(&r->chance);
-    meets(r, "equal clauses");
-    emit(r, "readwcnf %" PRIu64 " %" PRIu64, ROW_WORDS * f->clauses, fill);
-    meets(r, "equal clauses, room for the rows alone");
-    emit(r, "readwcnf %" PRIu64 " %" PRIu64, ROW_WORDS * f->rows, fill);
-}
-
 /* The table as it was read, for its own count of variables and others. What is written is read again. */
 static void emit_writings(struct run *r, word variables, const word *words, word count)
 {
@@ -53,7 +43,7 @@ static word odd_table_word(struct chance *c, word which, word weight)
     if (one_in(c, 40)) return odd_word(c);
     if (which == WEIGHT) return one_in(c, 9) ? 0 : between(c, 1, 9);
     if (which == MARK) return weight == 0 && !one_in(c, 9) ? HARD : SOFT;
-    return draw(c) & (which == 0 ? 0x5555 : 0xaaaa) & draw(c);
+    return draw(c) % 4 & (which + 1);
 }
 
 /* Tables that no reader gives: words that are no rows, too many rows, and rows as they come. */
@@ -61,10 +51,8 @@ static void emit_odd_table(struct run *r)
 {
     static word words[ROW_WORDS * MOST_DRAFTED];
     struct chance *c = &r->chance;
-    word variables = one_in(c, 4) ? between(c, 2, 65) : between(c, 16, 64), count = one_in(c, 4) ? between(c, ROW_WORDS * (MOST_LOADED - 1), ROW_WORDS * (MOST_LOADED + 2)) : draw(c) % 30;
+    word variables = between(c, 2, 65), count = one_in(c, 4) ? between(c, ROW_WORDS * (MOST_LOADED - 1), ROW_WORDS * (MOST_LOADED + 2)) : draw(c) % 30;
     for (word i = 0; i < count; i++) words[i] = odd_table_word(c, i % ROW_WORDS, i % ROW_WORDS == MARK ? words[i - 1] : 0);
-    word *last = words + count / ROW_WORDS * ROW_WORDS - ROW_WORDS;
-    if (count >= 2 * ROW_WORDS && one_in(c, 3)) last[0] = words[0], last[1] = words[1];
     emit_table(r, words, count);
     emit(r, "writewcnf %" PRIu64 " %" PRIu64 " 85", variables, one_in(c, 9) ? 9 : text_room(count / ROW_WORDS));
 }
@@ -86,8 +74,7 @@ static int generate_competition_runs(word seed, int count, const char *dir)
         emit_bytes(&r, bytes, length);
         emit_readings(&r, w.l.count > w.header ? (word)(w.l.count - w.header - 1) : 0);
         bool read = read_wcnf(bytes, length, (struct lent){words, ROW_WORDS * MOST_LOADED}, &f).number == 0;
-        if (read && f.rows < f.clauses) emit_merging(&r, &f);
-        if (read) emit_writings(&r, f.variables, words, ROW_WORDS * f.rows);
+        if (read) emit_writings(&r, f.variables, words, ROW_WORDS * f.clauses);
         if (one_in(&r.chance, 4)) emit_odd_table(&r);
         end_bench(&r.bench);
         fclose(r.out);

@@ -1,5 +1,5 @@
-/* Part of second.c: competition files (document 02, C-11, C-16 and C-17): good ones of many families, each in one of the manners in which one table
-   may be written, those that reader or load refuse by their figures, and damaged ones of named kinds. */
+/* Part of second.c: competition files (document 02, C-11 and C-16): good ones of many families, each in one of the manners in which one table may be
+   written, those that reader or load refuse by their figures, and damaged ones of named kinds. */
 
 /* The lines of texts.c, and before them so many comment lines of one byte each. The header is the line of this index. */
 struct competition {
@@ -10,9 +10,8 @@ struct competition {
 enum { MOST_COMPETITION = MOST_LINES * MOST_LINE + 2 * MOST_INPUT };
 #define MOST_TOP 9999999999u
 
-/* The manners; each but the first keeps the table, and so do all of them together. In a heavy one hard rows weigh more than top, at times. In a
-   divided one rows are there as several clauses. */
-enum { PLAIN, SHUFFLED = 1, REPEATED = 2, COMMENTED = 4, SPACED = 8, HEAVY = 16, DIVIDED = 32, ALL_MANNERS = 63 };
+/* The manners; each but the first keeps the table, and so do all of them together. In a heavy one hard rows weigh more than top, at times. */
+enum { PLAIN, SHUFFLED = 1, REPEATED = 2, COMMENTED = 4, SPACED = 8, HEAVY = 16, ALL_MANNERS = 31 };
 
 static size_t competition_bytes(const struct competition *w, unsigned char *out)
 {
@@ -95,26 +94,6 @@ static void clause_line(struct chance *c, unsigned manner, const word *row, word
     put_spaced(c, manner, line + at, 0);
 }
 
-/* A copy of the row, or a part of its weight, comes to stand anywhere behind it. */
-static void divide_row(struct chance *c, struct draft *d, word row)
-{
-    word *first = d->words + ROW_WORDS * row, part = is_hard(first) ? 0 : draw(c) % (first[WEIGHT] + 1);
-    word place = one_in(c, 3) ? d->rows : between(c, row + 1, d->rows), *made = d->words + ROW_WORDS * place;
-    memmove(made + ROW_WORDS, made, ROW_WORDS * (d->rows - place) * sizeof *made);
-    d->rows++;
-    memcpy(made, first, ROW_WORDS * sizeof *made);
-    made[WEIGHT] = part;
-    first[WEIGHT] -= part;
-}
-
-/* The clauses of a table: its rows or, in a divided manner, more of them, up to so many. */
-static void clauses_of(struct chance *c, unsigned manner, word most, struct draft *d)
-{
-    if (!(manner & DIVIDED) || d->rows == 0) return;
-    word parts = one_in(c, 4) ? between(c, 1, d->rows) : between(c, 1, 6);
-    for (; parts > 0 && d->rows < most; parts--) divide_row(c, d, draw(c) % d->rows);
-}
-
 static void competition_of(struct chance *c, struct competition *w, const struct draft *d, word top, unsigned manner)
 {
     w->bare = 0;
@@ -162,11 +141,11 @@ static word draft_no_rows(struct chance *c, struct draft *d)
     return 0;
 }
 
-static word draft_empty_row(struct chance *c, struct draft *d)
+static word draft_empty_rows(struct chance *c, struct draft *d)
 {
     d->variables = between(c, 0, 5);
-    add_row(d, (struct clause){0}, between(c, 1, 1000));
-    if (one_in(c, 3)) add_hard(d, (struct clause){0});
+    add_random_rows(c, d, between(c, 1, 30), 0, 1000);
+    if (one_in(c, 3)) harden_rows(c, d, 1);
     return 0;
 }
 
@@ -177,8 +156,7 @@ static word draft_steady(struct chance *c, struct draft *d)
     word rows = one_in(c, 2) ? (word)MOST_INPUT_ROWS : between(c, d->variables, MOST_INPUT_ROWS - 1);
     for (int v = 1; (word)v <= d->variables; v++) add_row(d, unit_row(one_in(c, 2) ? v : -v), MOST_INPUT_ROWS * (word)v);
     if (one_in(c, 3)) harden_path(c, d);
-    for (word left = rows > d->rows ? rows - d->rows : 0; left > 0; left--)
-        add_random_rows(c, d, 1, one_in(c, 50) ? (word)MOST_VARIABLES : between(c, 0, 6), 1);
+    while (d->rows < rows) add_random_rows(c, d, 1, one_in(c, 50) ? (word)MOST_VARIABLES : between(c, 0, 6), 1);
     return 0;
 }
 
@@ -198,7 +176,7 @@ static word draft_both_ways(struct chance *c, struct draft *d)
 /* As many clauses as the front door takes, or as the reader does, of which one of the last is 5, or 6, or weighs as much as top. */
 static word draft_late(struct chance *c, struct draft *d)
 {
-    d->variables = FULL_VARIABLES;
+    d->variables = between(c, 2, 6);
     add_mixed_rows(c, d, one_in(c, 4) ? MOST_LOADED : MOST_INPUT_ROWS, 9);
     word *row = d->words + ROW_WORDS * (d->rows - between(c, 1, 5)), how = draw(c) % 3;
     if (how == 0) row[draw(c) % 2] |= (word)1 << d->variables;
@@ -220,43 +198,10 @@ static word draft_figures(struct chance *c, struct draft *d)
     static const word variables[] = {63, 64, 65, 66, 4294967296, 9999999999};
     static const word rows[] = {MOST_INPUT_ROWS - 1, MOST_INPUT_ROWS, MOST_INPUT_ROWS + 1, MOST_INPUT_ROWS + 2, MOST_LOADED - 1,
                                 MOST_LOADED, MOST_LOADED + 1, MOST_LOADED + 2};
-    bool few = one_in(c, 3);
-    d->variables = few ? between(c, 1, 6) : FULL_VARIABLES;
-    add_mixed_rows(c, d, few ? between(c, 0, 9) : rows[draw(c) % 8], 9);
+    d->variables = between(c, 1, 6);
+    add_mixed_rows(c, d, one_in(c, 3) ? between(c, 0, 9) : rows[draw(c) % 8], 9);
     harden(c, d);
     if (one_in(c, 3)) d->variables = variables[draw(c) % 6];
-    return 0;
-}
-
-/* Clauses as they come, on few variables: many of them are equal. */
-static word draft_equal(struct chance *c, struct draft *d)
-{
-    d->variables = between(c, 0, 3);
-    word clauses = one_in(c, 4) ? between(c, MOST_INPUT_ROWS - 9, MOST_INPUT_ROWS) : between(c, 2, 40), most = draw_most_weight(c);
-    int fact = draw_literal(c, d->variables > 0 ? d->variables : 1); /* the hard ones hold it, but for some of the tables */
-    bool clash = d->variables == 0 || one_in(c, 4);
-    for (; clauses > 0; clauses--) {
-        word weight = between(c, one_in(c, 5) ? 0 : 1, most);
-        add_row(d, draw_clause(c, d->variables, between(c, 0, 2)), weight);
-        const struct clause made = clause_of(d->words + ROW_WORDS * (d->rows - 1));
-        if (one_in(c, 3) && (clash || on_literal(&made, fact))) make_hard(d, d->rows - 1);
-    }
-    return 0;
-}
-
-/* Equal soft clauses, each within the limit of a weight, whose sum is at it or over it; or two that are alike but for their mark. */
-static word draft_heavy_sum(struct chance *c, struct draft *d)
-{
-    d->variables = between(c, 1, 4);
-    add_mixed_rows(c, d, between(c, 1, 5), 9);
-    word row = draw(c) % d->rows, over = between(c, 0, 2), parts = between(c, 2, 4);
-    struct clause twice = clause_of(d->words + ROW_WORDS * row);
-    if (one_in(c, 4)) {
-        add_hard(d, twice);
-        return 0;
-    }
-    d->words[ROW_WORDS * row + WEIGHT] = MOST_WEIGHT + over - 300 * (parts - 1);
-    for (; parts > 1; parts--) add_row(d, twice, 300);
     return 0;
 }
 
@@ -267,18 +212,16 @@ static const struct competition_family {
 } competition_families[] = {
     {"max2", draft_max2, draw_top},             {"max3", draft_max3, draw_top},     {"mixed", draft_mixed, draw_top},
     {"clashing", draft_clashing, draw_top},     {"linked", draft_repeated, draw_top}, {"limits", draft_limits, draw_top},
-    {"no-rows", draft_no_rows, draw_top},       {"empty-row", draft_empty_row, draw_top}, {"steady", draft_steady, draw_top},
+    {"no-rows", draft_no_rows, draw_top},       {"empty-rows", draft_empty_rows, draw_top}, {"steady", draft_steady, draw_top},
     {"odd-weight", draft_odd_weight, draw_top}, {"above", draft_above, draw_top},   {"both-ways", draft_both_ways, draw_top},
     {"figures", draft_figures, draw_top},       {"low-top", draft_mixed, low_top},   {"late", draft_late, late_top},
-    {"equal", draft_equal, draw_top},           {"equal-low-top", draft_equal, low_top}, {"heavy-sum", draft_heavy_sum, draw_top},
 };
 enum { COMPETITION_FAMILIES = sizeof competition_families / sizeof *competition_families };
 
 static const struct {
     const char *name;
     unsigned manner;
-} manners[] = {{"plain", PLAIN}, {"shuffled", SHUFFLED}, {"repeated", REPEATED}, {"commented", COMMENTED}, {"spaced", SPACED}, {"heavy", HEAVY},
-               {"divided", DIVIDED}, {"divided", DIVIDED}, {"all", ALL_MANNERS}};
+} manners[] = {{"plain", PLAIN}, {"shuffled", SHUFFLED}, {"repeated", REPEATED}, {"commented", COMMENTED}, {"spaced", SPACED}, {"heavy", HEAVY}, {"all", ALL_MANNERS}};
 enum { MANNERS = sizeof manners / sizeof *manners };
 
 #include "wcnf_damage.c"
@@ -304,7 +247,6 @@ static void make_long(struct chance *c, int turn, struct competition *w, char *k
     size_t length = MOST_INPUT - 2 + (size_t)(turn % 4);
     add_mixed_rows(c, &d, between(c, 0, 30), 9);
     harden(c, &d);
-    clauses_of(c, ALL_MANNERS, MOST_INPUT_ROWS, &d);
     competition_of(c, w, &d, draw_top(c, &d), ALL_MANNERS);
     lengthen(c, w, length);
     if (one_in(c, 4)) w->l.text[w->header][0] = 'P';
@@ -325,7 +267,6 @@ static void make_competition(struct chance *c, int number, struct competition *w
         int manner = (int)(draw(c) % MANNERS);
         d = (struct draft){0};
         f->draft(c, &d);
-        clauses_of(c, manners[manner].manner, one_in(c, 4) ? MOST_LOADED : MOST_INPUT_ROWS, &d);
         competition_of(c, w, &d, f->top(c, &d), manners[manner].manner);
         sprintf(kind, "%s-%s", manners[manner].name, f->name);
     }

@@ -262,7 +262,7 @@ struct refusal read_wcnf(const unsigned char *text, size_t length, struct lent o
         agree(place, &answer, olikumpasho_read_wcnf(bytes, length, words, out.count, result), got, 2, out.words, &desk_room);
         read_back(&bytes_room);
     }
-    *figures = (struct figures){.variables = got[0], .rows = got[1]};
+    *figures = (struct figures){got[0], got[1], 0};
     return told(answer, 2);
 }
 

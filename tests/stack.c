@@ -105,8 +105,6 @@ static void weigh_them(void)
     expect("weight 0", weight_of, 0);
     longest_file();
     expect("hard rows", weight_of, 0);
-    repeat_first();
-    expect("a row twice", weight_of, 22);
     at->variables = 3;
     expect("over the count", weight_of, 5);
     at->words = 1;
@@ -117,8 +115,6 @@ static void load_them(void)
 {
     longest_table();
     expect("load", load, 0);
-    repeat_first();
-    expect("a row twice", load, 22);
     deep_table();
     expect("load", load, 0);
     ++*last_weight();
@@ -274,8 +270,6 @@ static void write_them(void)
     if (at->size != OLIKUMPASHO_MOST_WRITTEN) fail("write: the longest text is not as long as the header says");
     at->room--;
     expect("no room", write_text, 4);
-    repeat_first();
-    expect("a row twice", write_text, 22);
     at->variables = 3;
     expect("over the count", write_text, 5);
 }
@@ -319,8 +313,6 @@ static void write_files(void)
     if (at->size != OLIKUMPASHO_MOST_WRITTEN_WCNF) fail("write_wcnf: the longest text is not as long as the header says");
     at->room = at->size - 1;
     expect("no room", write_file, 4);
-    repeat_first();
-    expect("a row twice", write_file, 22);
     at->variables = 3;
     expect("over the count", write_file, 5);
 }

@@ -60,19 +60,7 @@ static void no_rows(uint64_t of)
 
 static uint64_t all(void) { return ~(uint64_t)0 >> (64 - VARIABLES); }
 
-/* Every variable's bit but for none of them, then for one, then for two: so many rows of all variables that are all different, with as few
-   positive literals as can be. */
-static uint64_t negative_of(uint64_t which)
-{
-    uint64_t first = 0, second = which - VARIABLES - 1;
-    if (which == 0) return all();
-    if (which <= VARIABLES) return all() ^ (uint64_t)1 << (which - 1);
-    while (second >= VARIABLES - 1 - first) second -= VARIABLES - 1 - first++;
-    return all() ^ (uint64_t)1 << first ^ (uint64_t)1 << (first + second + 1);
-}
-static void all_variables_row(uint64_t which, uint64_t weight, uint64_t mark) { marked_row(all() ^ negative_of(which), negative_of(which), weight, mark); }
-
-/* The longest text of an admissible table: nearly every literal negative, the weights as many figures each as the sum allows to all of them, one
+/* The longest text of an admissible table: every literal negative, the weights as many figures each as the sum allows to all of them, one
    figure more to as many as it then allows, and the sum at its limit. */
 static void longest_table(void)
 {
@@ -81,7 +69,7 @@ static void longest_table(void)
     const uint64_t spare = OLIKUMPASHO_MOST_WEIGHT - weight * ROWS, longer = spare / (9 * weight);
     no_rows(VARIABLES);
     at->budget = OLIKUMPASHO_MOST_BUDGET;
-    for (uint64_t i = 0; i < ROWS; i++) all_variables_row(i, i < longer ? 10 * weight : weight, OLIKUMPASHO_SOFT);
+    for (uint64_t i = 0; i < ROWS; i++) row(0, all(), i < longer ? 10 * weight : weight);
     *last_weight() += spare % (9 * weight);
 }
 
@@ -90,7 +78,7 @@ static void longest_file(void)
 {
     no_rows(VARIABLES);
     row(0, all(), OLIKUMPASHO_MOST_WEIGHT);
-    for (uint64_t i = 1; i < ROWS; i++) all_variables_row(i - 1, 0, OLIKUMPASHO_HARD);
+    for (int i = 1; i < ROWS; i++) hard_row(0, all());
 }
 
 /* The walk goes down once, to the last variable, and cuts each second branch. */
@@ -129,9 +117,6 @@ static void name(uint64_t of, const uint64_t *rows, size_t how_many)
     at->count = how_many;
     copy(at->named, rows, how_many * sizeof *rows);
 }
-
-/* The last row becomes the first. */
-static void repeat_first(void) { copy(at->table + at->words - OLIKUMPASHO_ROW_WORDS, at->table, OLIKUMPASHO_ROW_WORDS * sizeof *at->table); }
 
 static const uint64_t a_pair[] = {1, 13};
 static const uint64_t a_chain[] = {0, 1, 2, 3, 4, 5, 6, 7, 8, 9};

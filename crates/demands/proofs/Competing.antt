@@ -7,18 +7,16 @@ use Rattle.rules.specs.declared.Judged.{Judged}
 use Rattle.rules.specs.declared.Judged.TheVariants.{Fine, Refused}
 use Rattle.rules.specs.declared.WcnfHead.{WcnfHead}
 use Rattle.rules.specs.declared.WcnfRead.{WcnfRead}
-use Rattle.rules.specs.Table.{words_of_rows, table_why}
+use Rattle.rules.specs.Table.{table_why}
 use Rattle.rules.specs.Wcnf.{wcnf_text}
-use Rattle.rules.specs.WcnfReader.{header_of, header_why, wcnf_read_why, wcnf_rows, wcnf_words, wcnf_read_as, wcnf_read, wcnf_table}
+use Rattle.rules.specs.WcnfReader.{header_of, header_why, wcnf_read_why, wcnf_words, wcnf_read_as, wcnf_read, wcnf_table}
 use Rattle.rules.proofs.Judging.{words-fine}
 use Rattle.text_laws.proofs.LentBytes.{text-fine, text-written}
 use Rattle.wcnf_laws.specs.Form.{Form, Held, form_text}
 use Rattle.wcnf_laws.specs.Given.{Given, Exactly}
 use Rattle.wcnf_laws.specs.Rows.{Laid}
 use Rattle.wcnf_laws.proofs.Exact.{exactly}
-use Rattle.wcnf_laws.proofs.Members.{file-answered}
 use Rattle.wcnf_laws.proofs.Says.{figured, same_read}
-use Rattle.wcnf_laws.proofs.Split.{split-read}
 use Rattle.wcnf_laws.proofs.RowsSaid.{table-says}
 use Rattle.wcnf_laws.proofs.Trip.{read_back}
 use Rattle.telling.specs.Told.{by_wcnf_read}
@@ -29,31 +27,26 @@ pub says-judged : (most : ℕ) (s : List ℕ) (room : ℕ) → reader_why most s
 unfolding wcnf_read wcnf_read_why
 says-judged most s room = by-header (header_of s)
   where
-    accepted : (j : Judged) (v m t next line : ℕ) → by_wcnf_read (wcnf_read_as j (WcnfHead.Figures v m t next line) (wcnf_rows s)) ≡ j
+    accepted : (j : Judged) (v m t next line : ℕ) → by_wcnf_read (wcnf_read_as j (WcnfHead.Figures v m t next line)) ≡ j
     accepted Fine v m t next line = refl
     accepted (Refused r) v m t next line = refl
 
-    by-header : (h : WcnfHead) → by_wcnf_read (wcnf_read_as (header_why most s room h) h (wcnf_rows s)) ≡ header_why most s room h
+    by-header : (h : WcnfHead) → by_wcnf_read (wcnf_read_as (header_why most s room h) h) ≡ header_why most s room h
     by-header (WcnfHead.Figures v m t next line) = accepted (header_why most s room (WcnfHead.Figures v m t next line)) v m t next line
     by-header (WcnfHead.Broken line) = refl
 
 module _ (most : ℕ) (f : Form) (lent : List ℕ) (held : Held f) (fine : wcnf_read_why most (form_text f) (length lent) ≡ Fine) where
-  abbrev made : ℕ
-  made = length (wcnf_rows (form_text f))
+  file-answers : wcnf_read most (form_text f) (length lent) ≡ WcnfRead.Table f.header.variables f.header.clauses
+  unfolding wcnf_read
+  file-answers = rw (fine, (figured (form_text f) f held refl).header)
 
-  file-answers : wcnf_read most (form_text f) (length lent) ≡ WcnfRead.Table f.header.variables made
-  file-answers =
-      let x = figured (form_text f) f held refl in
-      file-answered most (form_text f) (length lent) fine f.header.variables f.header.clauses f.header.top x.next _ x.header
-
-  file-laid : Laid f made lent (wcnf_table most (form_text f) lent)
-  unfolding wcnf_table wcnf_words
+  file-laid : Laid f lent (wcnf_table most (form_text f) lent)
+  unfolding wcnf_table
   file-laid =
-      let words = words_of_rows (wcnf_rows (form_text f)) in
+      let words = wcnf_words (form_text f) in
       record {
-        made = wcnf_rows (form_text f);
+        words = words;
         says = table-says f held;
-        count = refl;
         laid = words-fine (wcnf_read_why most (form_text f) (length lent)) (words ++ drop (length words) lent) lent fine;
       }
 
@@ -79,13 +72,8 @@ competition =
       exactly = says-exactly;
       makes = λ most f lent held fine.
           let why = sym (says-judged most (form_text f) (length lent)) ∙ fine in
-          (made most f lent held why, file-answers most f lent held why, file-laid most f lent held why);
+          (file-answers most f lent held why, file-laid most f lent held why);
       same = λ most f g lent p q only here there.
           (same_read f g p q only).table most lent (sym (says-judged most (form_text f) (length lent)) ∙ here)
           (sym (says-judged most (form_text g) (length lent)) ∙ there);
-      split = λ most f g lent p q split here there.
-          let one = sym (says-judged most (form_text f) (length lent)) ∙ here in
-          let two = sym (says-judged most (form_text g) (length lent)) ∙ there in
-          let read = split-read f g p q split in
-          (read.answer most (length lent) one two, read.table most lent one two);
     }

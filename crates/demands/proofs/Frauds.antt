@@ -24,7 +24,7 @@ use Rattle.rules.specs.declared.Bounded.{Bounded}
 use Rattle.rules.specs.declared.Searched.{Searched}
 use Rattle.rules.specs.declared.Judged.TheVariants.{Fine, Refused}
 use Rattle.rules.specs.Table.{hard_row, is_hard, row_in, row_of, row_count, holds, given_up, breaks, bad_table, bad_lits, bad_mark, bad_weight, row_why, rows_why}
-use Rattle.rules.specs.Table.{same_clause, repeats, row_among_why, sum_too_large, row_words_of}
+use Rattle.rules.specs.Table.{sum_too_large, row_words_of}
 use Rattle.rules.specs.Desk.{standing, row_place, entry_place, desk_words, row_on, weight_on, reaches, in_limits, rows_sound, weight_fits, masks_nest}
 use Rattle.rules.specs.Desk.{variables, well_formed, load_why, load_step, decisions, satisfied, remnant, desk_weighs, hard_hold_on, keeps}
 use Rattle.rules.specs.Decide.{entered, bad_literal, decide_why, decision_entry, decide_step, decide_desk}
@@ -54,8 +54,8 @@ p8 = row (x 1 ∷ x 2 ∷ []) 1 ++ row (not-x 2 ∷ []) 1
 
 -- "A refuser of everything falls to 'exactly when'": P2's table must be loaded.
 p2-loads : load_why 1 p2 2 (lent 2) ≡ Fine
-unfolding load_why desk_words row_place row_count rows_why row_among_why row_why same_clause repeats row_of row_in bad_table bad_lits bad_mark bad_weight is_hard sum_too_large
-    row_words_of lits_of bit_of size is_positive no_lits together same_lits sum every none without below single
+unfolding load_why desk_words row_place row_count rows_why row_why row_of row_in bad_table bad_lits bad_mark bad_weight is_hard sum_too_large row_words_of lits_of bit_of size
+    is_positive no_lits together sum none without below single
 p2-loads = refl
 
 pub no-refuser : (r : Refusal) → load_why 1 p2 2 (lent 2) ≡ Refused r → ⊥

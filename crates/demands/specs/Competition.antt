@@ -1,5 +1,5 @@
--- Document 02, C-11 as C-16 and C-17 amend it: what is promised of competition files. The form, what is given exactly when, and the rows that a text makes are
--- those of crates/wcnf_laws/specs; no word of this is the reader's own, so that its definition need not be believed.
+-- Document 02, C-11: what is promised of competition files. The form, what is given exactly when, and the rows that a text makes are those of
+-- crates/wcnf_laws/specs; no word of this is the reader's own, so that its definition need not be believed.
 use Rattle.std.specs.Prelude.{ℕ, ◌≤◌, ◌≡◌, List, ◌++◌, length, drop}
 use Rattle.rules.specs.declared.Judged.{Judged}
 use Rattle.rules.specs.declared.Judged.TheVariants.{Fine}
@@ -11,7 +11,7 @@ use Rattle.rules.specs.WcnfReader.{wcnf_read, wcnf_table}
 use Rattle.wcnf_laws.specs.Form.{Form, Held, form_text}
 use Rattle.wcnf_laws.specs.Given.{Exactly}
 use Rattle.wcnf_laws.specs.Rows.{Laid}
-use Rattle.wcnf_laws.specs.Same.{DifferOnly, SplitOnly}
+use Rattle.wcnf_laws.specs.Same.{DifferOnly}
 use Rattle.telling.specs.Told.{by_wcnf_read}
 
 -- what a reader of so many rows at most judges of a text, given room for so many words
@@ -29,16 +29,9 @@ pub record Competition : Type 0 where
   -- "A broken, missing or surplus line is 20 with its line. After the header come 1, 2 and 4 by its figures; then line by line 20, 5, 21";
   -- C-16: "drops 21"
   pub exactly : Exactly reader_why
-  -- "Literals come in any order; one given twice counts once." C-17: equal soft clauses are one row of their sum, at the first one's place, and a hard one
-  -- stays once; the answer has the rows made
+  -- "Literals come in any order; one given twice counts once."
   pub makes : (most : ℕ) (f : Form) (lent : List ℕ) → Held f → reader_why most (form_text f) (length lent) ≡ Fine
-      → (rows : ℕ) × (wcnf_read most (form_text f) (length lent) ≡ WcnfRead.Table f.header.variables rows)
-      × Laid f rows lent (wcnf_table most (form_text f) lent)
+      → (wcnf_read most (form_text f) (length lent) ≡ WcnfRead.Table f.header.variables f.header.clauses) × Laid f lent (wcnf_table most (form_text f) lent)
   -- "two accepted texts which differ only in comments, literal order or repeats give the same table"
   pub same : (most : ℕ) (f g : Form) (lent : List ℕ) → Held f → Held g → DifferOnly f g → reader_why most (form_text f) (length lent) ≡ Fine
       → reader_why most (form_text g) (length lent) ≡ Fine → wcnf_table most (form_text f) lent ≡ wcnf_table most (form_text g) lent
-  -- C-17: "the same text with a soft clause split in two of the same total" gives the same; so does one with a hard clause once more
-  pub split : (most : ℕ) (f g : Form) (lent : List ℕ) → Held f → Held g → SplitOnly f g → reader_why most (form_text f) (length lent) ≡ Fine
-      → reader_why most (form_text g) (length lent) ≡ Fine
-      → (wcnf_read most (form_text f) (length lent) ≡ wcnf_read most (form_text g) (length lent))
-      × (wcnf_table most (form_text f) lent ≡ wcnf_table most (form_text g) lent)

@@ -1,24 +1,23 @@
--- What an admissible table is, as facts on its rows: none of 1, 2, the rows' 5, 6 and 22, and 7 is due.
+-- What an admissible table is, as facts on its rows: none of 1, 2, the rows' 5 and 6, and 7 is due.
 use Prim.Native.Nat.{ℕ, zero, suc, ◌*◌, ◌%◌, ◌<◌, ◌≤◌}
 use mathlib.Core.Path.{◌≡◌, refl}
 use mathlib.Core.Logic.{⊎_elim}
 use mathlib.Core.Bool.{Bool, true, false, not, ◌&&◌, ◌||◌}
 use mathlib.Core.List.{List}
 use native.Mathlib.Omega.{arith}
-use borrow.Author.Tests.{ltb-false, eqb-true, not-false, not-true}
+use borrow.Author.Tests.{ltb-false, eqb-true, not-false}
 use lib.Dec.{ltb, eqb}
 use lib.Bits.{bit_and}
 use lib.ListN.{length}
 use Rattle.masks.specs.Masks.{none, below}
-use Rattle.masks.specs.Sums.{sum, every}
-use Rattle.masks.proofs.Sums.{every-at}
+use Rattle.masks.specs.Sums.{sum}
 use Rattle.masks.proofs.Choice.{or-none, and_left, and_right, lt-or-le, impossible}
 use Rattle.literals.specs.Literal.{most_variables}
 use Rattle.rules.specs.declared.Row.{Row}
-use Rattle.rules.specs.declared.Refusal.TheVariants.{TooManyVariables, BadTable, BadLiterals, BadWeight, SameClause, SumTooLarge}
+use Rattle.rules.specs.declared.Refusal.TheVariants.{TooManyVariables, BadTable, BadLiterals, BadWeight, SumTooLarge}
 use Rattle.rules.specs.declared.Judged.TheVariants.{Fine}
 use Rattle.rules.specs.Table.{row_words, most_rows, most_weight, hard_mark, is_hard, row_of, row_count}
-use Rattle.rules.specs.Table.{bad_table, bad_lits, bad_mark, bad_weight, row_why, same_clause, repeats, row_among_why, rows_why, sum_too_large, table_why}
+use Rattle.rules.specs.Table.{bad_table, bad_lits, bad_mark, bad_weight, row_why, rows_why, sum_too_large, table_why}
 use Rattle.rules.proofs.Judging.{refuse-fine, order-fine}
 
 pub record RowFine (n : ℕ) (row : Row) : Type 0 where
@@ -76,27 +75,15 @@ row_fine n i row e =
       marked = (or-none (bad_mark row) _ p2.0).0;
     }
 
--- a row among others: fine by itself, and none of those before it is the same clause
-abbrev Among : ℕ → List ℕ → ℕ → Type 0
-Among n table j = RowFine n (row_of table j) × ((i : ℕ) → i < j → same_clause (row_of table i) (row_of table j) ≡ false)
-
-among-fine : (n : ℕ) (table : List ℕ) (j : ℕ) → row_among_why n table j ≡ Fine → Among n table j
-unfolding row_among_why repeats
-among-fine n table j e =
-    let p = order-fine (row_why n j (row_of table j)) _ e in
-    let other : ℕ → Bool = λ i. not (same_clause (row_of table i) (row_of table j)) in
-    let none-same = not-false (every j other) (refuse-fine (not (every j other)) (SameClause j) Fine p.1).0 in
-    (row_fine n j (row_of table j) p.0, λ i l. not-true (same_clause (row_of table i) (row_of table j)) (every-at j other none-same i l))
-
-rows-fine : (n : ℕ) (table : List ℕ) (m : ℕ) → rows_why n table m ≡ Fine → (j : ℕ) → j < m → Among n table j
+pub rows-fine : (n : ℕ) (table : List ℕ) (m : ℕ) → rows_why n table m ≡ Fine → (i : ℕ) → i < m → RowFine n (row_of table i)
 unfolding rows_why
-rows-fine n table zero e j l = absurd (omega arith)
-rows-fine n table (suc m) e j l =
-    let p = order-fine (rows_why n table m) (row_among_why n table m) e in
+rows-fine n table zero e i l = absurd (omega arith)
+rows-fine n table (suc m) e i l =
+    let p = order-fine (rows_why n table m) (row_why n m (row_of table m)) e in
     ⊎_elim
-    (λ x. rows-fine n table m p.0 j x)
-    (λ x. let q : j ≡ m = omega arith in rw q (among-fine n table m p.1))
-    (lt-or-le j m)
+    (λ x. rows-fine n table m p.0 i x)
+    (λ x. let q : i ≡ m = omega arith in rw q (row_fine n m (row_of table m) p.1))
+    (lt-or-le i m)
 
 -- 2 is not due: the words are whole rows, and not too many
 pub whole-rows : (table : List ℕ) → bad_table table ≡ false → (length table ≡ row_words * row_count table) × (row_count table ≤ most_rows)
@@ -111,7 +98,6 @@ pub record TableFine (n : ℕ) (table : List ℕ) : Type 0 where
   pub whole : length table ≡ row_words * row_count table
   pub few : row_count table ≤ most_rows
   pub rows : (i : ℕ) → i < row_count table → RowFine n (row_of table i)
-  pub apart : (i j : ℕ) → i < j → j < row_count table → same_clause (row_of table i) (row_of table j) ≡ false
   pub light : sum (row_count table) (λ i. (row_of table i).weight) ≤ most_weight
 
 pub table-fine : (n : ℕ) (table : List ℕ) → table_why n table ≡ Fine → TableFine n table
@@ -126,7 +112,6 @@ table-fine n table e =
       variables = ltb-false most_variables n p1.0;
       whole = shape.0;
       few = shape.1;
-      rows = λ i l. (rows-fine n table (row_count table) p3.0 i l).0;
-      apart = λ i j less l. (rows-fine n table (row_count table) p3.0 j l).1 i less;
+      rows = rows-fine n table (row_count table) p3.0;
       light = ltb-false most_weight (sum (row_count table) (λ i. (row_of table i).weight)) p4.0;
     }

@@ -18,7 +18,7 @@ use Rattle.rules.specs.Program.{refusal_text, losses_text, found_text, program_d
 use Rattle.rules.specs.Reader.{stands, is_digit, digit_run, value_of, number_at, number_line, literal_at, with_literal, lits_from, lits_line, mark_line, row_at}
 use Rattle.rules.specs.Reader.{rows_at, head_at, read_why, read_words, read_step, text_read}
 use Rattle.rules.specs.Table.{row_words_of, row_in, row_of, row_count, holds, given_up, weighs, bad_table, bad_lits, bad_weight, row_why, rows_why}
-use Rattle.rules.specs.Table.{same_clause, repeats, row_among_why, is_hard, breaks, hard_hold, bad_mark, sum_too_large, table_why, weigh_why, weighed}
+use Rattle.rules.specs.Table.{is_hard, breaks, hard_hold, bad_mark, sum_too_large, table_why, weigh_why, weighed}
 use Rattle.rules.specs.Rewrite.{shows, lit, links, compensating}
 use Rattle.rules.specs.Steps.{fewest, most, fewer_added, concedes, count_fits, distinct, well_named, remnant_of}
 use Rattle.rules.specs.Rewrite.{clash, apart_from, forked, merges, shifts, chains, forks, fits, gives, given, well_fitted}
@@ -43,7 +43,7 @@ unfolding bit has count without none below single sum every smallest zeroed size
     read_words read_step text_read fewest most fewer_added concedes count_fits distinct well_named remnant_of shows lit links compensating clash apart_from
     forked merges shifts chains forks fits gives stored empties given well_fitted rewrite_why lightest reweighed laid rewriting_entry rewrite_step row_in
     row_of row_count holds given_up weighs breaks hard_hold is_hard bad_mark lost_hard dead mark_line bad_table bad_lits bad_weight row_why rows_why sum_too_large
-    same_clause repeats row_among_why table_why weigh_why weighed last_place last_kind
+    table_why weigh_why weighed last_place last_kind
     last_variable last_weight last_count last_named last_first merged_empty last_conceded withdrawn undo_decision undo_rewriting take_back_step bad_decision
     bad_rewriting bad_last take_back_why bytes digits number_text line behind lits_text row_text rows_text table_text text_why text_written text_out fixed visited
     kept_at halted walk undecided at_start walk_of searched figures

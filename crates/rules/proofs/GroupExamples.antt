@@ -5,7 +5,6 @@ use Rattle.masks.specs.Sums.{sum, every}
 use Rattle.literals.specs.Literal.{size, is_positive, is_literal, bit_of, lits_of}
 use Rattle.literals.specs.Lits.{no_lits, together, variables_of, is_empty, same_lits, is_one}
 use Rattle.rules.specs.Table.{row_words_of, row_in, row_of, row_count, is_hard, bad_table, bad_lits, bad_mark, bad_weight, row_why, rows_why, sum_too_large}
-use Rattle.rules.specs.Table.{same_clause, repeats, row_among_why}
 use Rattle.rules.specs.Desk.{row_place, entry_place, desk_words, row_on, weight_on, reaches, in_limits, rows_sound, weight_fits, masks_nest, well_formed}
 use Rattle.rules.specs.Desk.{load_why, load_step, decisions, satisfied, remnant}
 use Rattle.rules.specs.Decide.{entered, bad_literal, decide_why, decision_entry, decide_step, decide_desk}
@@ -27,5 +26,5 @@ unfolding bit has count without none below single sum every size is_positive is_
     foreseen bound conflict_at made_true forced_at opposes looked scanned entry_scanned drained hunted joined gathered group_of less_at taken tallied hunts
     working_weight hunts_on groups_cost groups_bound losses_at losses_by_groups desk_why choice_of fixed visited kept_at halted walk undecided at_start walk_of
     searched bytes digits number_text line behind lits_text losses_text found_text program_desk load_why row_of is_hard bad_mark lost_hard dead
-    bad_table bad_weight row_why same_clause repeats row_among_why rows_why sum_too_large after_call
+    bad_table bad_weight row_why rows_why sum_too_large after_call
 group-examples-right = tt

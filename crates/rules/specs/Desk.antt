@@ -101,7 +101,7 @@ masks_nest d = none (without (truths d) (decided d)) && below (decided d) (varia
 unfoldable pub well_formed : List ℕ → Bool
 well_formed d = reaches d && (in_limits d && (rows_sound d && (weight_fits d && masks_nest d)))
 
--- Load: 1, 2, 3, 4, rows in order with 5 before 6 before 22, then 7.
+-- Load: 1, 2, 3, 4, rows in order with 5 before 6, then 7.
 unfoldable pub load_why : ℕ → List ℕ → ℕ → List ℕ → Judged
 load_why n table c d =
     first_due (TooManyVariables when ltb most_variables n ∷ BadTable when bad_table table ∷ BadCapacity when (ltb c (row_count table) || ltb most_capacity c)

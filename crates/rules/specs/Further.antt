@@ -7,7 +7,6 @@ use Rattle.rules.specs.Refusals.{number_of, place_of}
 use Rattle.rules.specs.Table.{most_rows, marked_row, hard_row, row_words_of, weighed}
 use Rattle.rules.specs.Desk.{most_capacity, desk_words, in_limits, load_why, load_desk}
 use Rattle.rules.specs.Text.{bytes}
-use Rattle.rules.specs.Reader.{read_why}
 use Rattle.rules.specs.Program.{answer}
 use Rattle.rules.specs.Figures.{figures}
 use Rattle.rules.specs.Calls.{Call, decide, rewrite, take_back, load, call_why, after_call, after_calls}
@@ -103,7 +102,7 @@ further =
     (loading 0 (empties (suc most_rows)) (most_rows - 1) (desk_words most_rows))
     (2 ∷ 0 ∷ [])
     ∷ example "limit: C = the rows loaded"
-    (loading 1 (row [] 1 ++ row (x 1 ∷ []) 1) 2 (desk_words 2))
+    (loading 0 (empties 2) 2 (desk_words 2))
     []
     ∷ example "limit: C at its most"
     (loading 0 [] most_capacity (desk_words most_capacity))
@@ -221,7 +220,7 @@ further =
     (calling (desk 2 p7 3) (rewrite 1 (1 ∷ 0 ∷ [])))
     []
     ∷ example "step: two empty remnants do not merge"
-    (calling (after_call (desk 1 (row [] 1 ++ row (x 1 ∷ []) 1) 3) (decide (negsuc 0))) (rewrite 1 (0 ∷ 1 ∷ [])))
+    (calling (desk 0 (empties 2) 3) (rewrite 1 (0 ∷ 1 ∷ [])))
     (14 ∷ 0 ∷ [])
     ∷ example "step: a shift takes w from x1 and (-1,2), adds (1,-2) and x2"
     (account (after_call (desk 2 (row (x 1 ∷ []) 3 ++ row (not-x 1 ∷ x 2 ∷ []) 2) 4) (rewrite 2 (0 ∷ 1 ∷ []))))
@@ -292,8 +291,8 @@ further =
     ++ answer (bytes "vars=1\nbudget=2\nrows=2\nweight=0\nhard=1\nlits=1\nweight=0\nhard=1\nlits=-1\n"))
     (bytes "status=impossible\nweight=none\nnodes=3\nreading=none\nconceded=0\nlost=0\nforeseen=0\n"
     ++ bytes "status=stopped\nweight=none\nnodes=2\nreading=none\nconceded=0\nlost=0\nforeseen=0\n")
-    ∷ example "hard: a hard row against a heavy soft one"
-    (answer (bytes "vars=1\nbudget=100\nrows=2\nweight=9\nhard=0\nlits=1\nweight=0\nhard=1\nlits=-1\n"))
+    ∷ example "hard: a hard row against heavier soft ones"
+    (answer (bytes "vars=1\nbudget=100\nrows=3\nweight=7\nhard=0\nlits=1\nweight=0\nhard=1\nlits=-1\nweight=2\nhard=0\nlits=1\n"))
     (bytes "status=done\nweight=9\nnodes=3\nreading=-1\nconceded=0\nlost=0\nforeseen=0\n")
     ∷ example "hard: of two facts with large weights that clash the search breaks one"
     (answer (bytes "vars=1\nbudget=100\nrows=2\nweight=500000000\nhard=0\nlits=1\nweight=500000000\nhard=0\nlits=-1\n"))
@@ -312,21 +311,4 @@ further =
     (weight_number (weighed 1 (row (x 1 ∷ []) 3 ++ row_words_of (hard_row (not-x 1))) 1)
     ++ weight_number (weighed 1 (row (x 1 ∷ []) 3 ++ row_words_of (hard_row (not-x 1))) 0))
     (0 ∷ 0 ∷ 3 ∷ 1 ∷ [])
-    ∷ example "twice: the same clause, of other weight, and hard; the later row is the place"
-    (loading 2 (row (x 1 ∷ []) 1 ++ (row (x 2 ∷ []) 1 ++ (row (x 1 ∷ []) 2 ++ row (x 2 ∷ []) 1))) 4 (desk_words 4)
-    ++ loading 1 (row_words_of (hard_row (x 1)) ++ row_words_of (hard_row (x 1))) 2 (desk_words 2))
-    (22 ∷ 2 ∷ 22 ∷ 1 ∷ [])
-    ∷ example "twice: a soft row and a hard one are two, and so are a literal and its opposite"
-    (loading 1 (row (x 1 ∷ []) 1 ++ (row_words_of (hard_row (x 1)) ++ row (not-x 1 ∷ []) 1)) 3 (desk_words 3))
-    []
-    ∷ example "twice: after 6 of that row, before 5 of the next, before 7"
-    (loading 1 (row (x 1 ∷ []) 1 ++ row (x 1 ∷ []) 0) 2 (desk_words 2)
-    ++ (loading 1 (row (x 1 ∷ []) 1 ++ (row (x 1 ∷ []) 1 ++ row (x 2 ∷ []) 1)) 3 (desk_words 3)
-    ++ loading 1 (row (x 1 ∷ []) 1_000_000_000 ++ row (x 1 ∷ []) 1) 2 (desk_words 2)))
-    (6 ∷ 1 ∷ 22 ∷ 1 ∷ 22 ∷ 1 ∷ [])
-    ∷ example "twice: the reader of a text does not judge it, load and the weight of a reading do"
-    (refusal (read_why most_rows (bytes "vars=1\nbudget=1\nrows=2\nweight=1\nhard=0\nlits=1\nweight=2\nhard=0\nlits=1\n") 8)
-    ++ (weight_number (weighed 1 (row (x 1 ∷ []) 1 ++ row (x 1 ∷ []) 2) 1)
-    ++ answer (bytes "vars=1\nbudget=1\nrows=2\nweight=1\nhard=0\nlits=1\nweight=2\nhard=0\nlits=1\n")))
-    (22 ∷ 1 ∷ bytes "status=refused\nnumber=22\nplace=1\n")
     ∷ []

@@ -69,11 +69,7 @@ one_by_up =
     ++ (row (not-x 1 ∷ not-x 2 ∷ not-x 3 ∷ []) 1 ++ row (x 1 ∷ not-x 2 ∷ []) 1))))))
 
 abbrev clashing : List ℕ
-clashing = row (x 1 ∷ []) 1 ++ (row (x 2 ∷ []) 1 ++ (row (not-x 1 ∷ []) 1 ++ (row (not-x 2 ∷ []) 1 ++ row (not-x 2 ∷ x 3 ∷ []) 3)))
-
--- the last two rows have the same remnant
-abbrev clashed : List ℕ
-clashed = after_call (desk 3 clashing 5) (decide (negsuc 2))
+clashing = row (x 1 ∷ []) 1 ++ (row (x 2 ∷ []) 1 ++ (row (not-x 1 ∷ []) 1 ++ (row (not-x 2 ∷ []) 1 ++ row (not-x 2 ∷ []) 3)))
 
 -- a free variable, and a group on the two behind it
 abbrev behind_one : List ℕ
@@ -107,8 +103,8 @@ group_examples =
     ∷ example "the oldest unit's group is found first"
     (bounds (desk 4 two_ways 6) ++ first_group (desk 4 two_ways 6))
     (0 ∷ 2 ∷ 0 ∷ 4 ∷ 5 ∷ [])
-    ∷ example "what is not needed is not in the group: two pairs of clashing units; of equal remnants the first"
-    (bounds clashed ++ weights_left clashed 2 5)
+    ∷ example "what is not needed is not in the group: two pairs of clashing units; of equal rows the first"
+    (bounds (desk 2 clashing 5) ++ weights_left (desk 2 clashing 5) 2 5)
     (2 ∷ 2 ∷ 0 ∷ 0 ∷ 0 ∷ 0 ∷ 3 ∷ [])
     ∷ example "P5: its rows are a group; with x1 true units clash; with x1 false row 0 is lost, and no more"
     (bounds (desk 2 p5 4) ++ (bounds (after_call (desk 2 p5 4) (decide (pos 1))) ++ bounds (after_call (desk 2 p5 4) (decide (negsuc 0)))))

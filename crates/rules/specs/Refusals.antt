@@ -4,7 +4,7 @@ use Rattle.rules.specs.declared.Numbered.{Numbered}
 use Rattle.rules.specs.declared.Refusal.{Refusal}
 use Rattle.rules.specs.declared.Refusal.TheVariants.{TooManyVariables, BadTable, BadCapacity, NoRoom, BadLiterals, BadWeight, SumTooLarge}
 use Rattle.rules.specs.declared.Refusal.TheVariants.{BadReading, BadBudget, BadDesk, TooManySteps, BadLiteral, BadNaming, BadFit, DeskFull}
-use Rattle.rules.specs.declared.Refusal.TheVariants.{NothingStands, InputTooLong, BadText, SameClause}
+use Rattle.rules.specs.declared.Refusal.TheVariants.{NothingStands, InputTooLong, BadText}
 use Rattle.rules.specs.declared.Judged.{Judged}
 use Rattle.rules.specs.declared.Judged.TheVariants.{Fine, Refused}
 
@@ -32,7 +32,6 @@ numbered DeskFull = numbers 15 0
 numbered NothingStands = numbers 16 0
 numbered InputTooLong = numbers 19 0
 numbered (BadText line) = numbers 20 line
-numbered (SameClause row) = numbers 22 row
 
 abbrev pub number_of : Refusal → ℕ
 number_of r = (numbered r).0

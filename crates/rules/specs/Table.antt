@@ -1,14 +1,13 @@
 -- Document 01, "The clause table": rows, an admissible table, the weight of a reading.
-use Rattle.std.specs.Prelude.{ℕ, zero, suc, ◌+◌, ◌*◌, ◌/◌, ◌%◌, List, [], ◌∷◌, ◌++◌, Bool, cond, not, ◌&&◌, ◌||◌, length, get_or, eqb, ltb}
+use Rattle.std.specs.Prelude.{ℕ, zero, suc, ◌+◌, ◌*◌, ◌/◌, ◌%◌, List, [], ◌∷◌, Bool, cond, not, ◌&&◌, ◌||◌, length, get_or, eqb, ltb}
 use Rattle.std.specs.Int.Bits.{bit_and}
 use Rattle.masks.specs.Masks.{none, without, below}
 use Rattle.masks.specs.Sums.{sum, every}
 use Rattle.literals.specs.declared.Lits.{Lits}
 use Rattle.literals.specs.Literal.{most_variables}
-use Rattle.literals.specs.Lits.{same_lits}
 use Rattle.rules.specs.declared.Row.{Row}
 use Rattle.rules.specs.declared.Weighed.{Weighed}
-use Rattle.rules.specs.declared.Refusal.TheVariants.{TooManyVariables, BadTable, BadLiterals, BadWeight, SameClause, SumTooLarge, BadReading}
+use Rattle.rules.specs.declared.Refusal.TheVariants.{TooManyVariables, BadTable, BadLiterals, BadWeight, SumTooLarge, BadReading}
 use Rattle.rules.specs.declared.Judged.{Judged}
 use Rattle.rules.specs.declared.Judged.TheVariants.{Fine, Refused}
 use Rattle.rules.specs.Refusals.{in_order, ◌when◌, as_in, first_due}
@@ -52,11 +51,6 @@ row_in words at =
 -- the words of a row
 unfoldable pub row_words_of : Row → List ℕ
 row_words_of row = row.lits.positive ∷ row.lits.negative ∷ row.weight ∷ row.mark ∷ []
-
--- the words of rows, one behind the other
-unfoldable pub words_of_rows : List Row → List ℕ
-words_of_rows [] = []
-words_of_rows (r ∷ rs) = row_words_of r ++ words_of_rows rs
 
 -- a row with another weight
 abbrev pub with_weight : Row → ℕ → Row
@@ -105,26 +99,13 @@ bad_mark row = ltb hard_mark row.mark || (is_hard row && not (eqb row.weight 0))
 unfoldable pub bad_weight : Row → Bool
 bad_weight row = bad_mark row || (not (is_hard row) && (eqb row.weight 0 || ltb most_weight row.weight))
 
--- of row i, whatever the others are
 unfoldable pub row_why : ℕ → ℕ → Row → Judged
 row_why variables i row = first_due (BadLiterals i when bad_lits variables row.lits ∷ BadWeight i when bad_weight row ∷ [])
 
--- Document 02, C-17: the same clause, whatever the weights: "literals and hard mark equal"
-unfoldable pub same_clause : Row → Row → Bool
-same_clause a b = same_lits a.lits b.lits && eqb a.mark b.mark
-
--- 22: row i is the same clause as "an earlier row"
-unfoldable pub repeats : List ℕ → ℕ → Bool
-repeats table i = not (every i (λ j. not (same_clause (row_of table j) (row_of table i))))
-
--- row i of a table: 22 "is tested after 6 for that row", "the later row as place"
-unfoldable pub row_among_why : ℕ → List ℕ → ℕ → Judged
-row_among_why variables table i = first_due (as_in (row_why variables i (row_of table i)) ∷ SameClause i when repeats table i ∷ [])
-
--- "rows in order with 5 before 6", then 22: the first refusal among the first k rows
+-- "rows in order with 5 before 6": the first refusal among the first k rows
 unfoldable pub rows_why : ℕ → List ℕ → ℕ → Judged
 rows_why variables table zero = Fine
-rows_why variables table (suc k) = in_order (rows_why variables table k) (row_among_why variables table k)
+rows_why variables table (suc k) = in_order (rows_why variables table k) (row_why variables k (row_of table k))
 
 -- 7: weights sum over 1,000,000,000
 unfoldable pub sum_too_large : List ℕ → Bool

@@ -1,4 +1,4 @@
--- Document 02, C-11 as C-16 and C-17 amend it: competition files: what is read. A place is an index into the bytes, as in Reader.antt.
+-- Document 02, C-11: competition files: what is read. A place is an index into the bytes, as in Reader.antt.
 use Rattle.std.specs.Prelude.{ℕ, zero, suc, ◌+◌, ◌-◌, ◌*◌, List, [], ◌∷◌, ◌++◌, Bool, false, cond, not, ◌&&◌, ◌||◌, length, get_or, drop, eqb, leb, ltb, ℤ, pos, neg_ℤ}
 use Rattle.literals.specs.declared.Lits.{Lits}
 use Rattle.literals.specs.Literal.{most_variables, size, lits_of}
@@ -11,7 +11,7 @@ use Rattle.rules.specs.declared.Refusal.TheVariants.{TooManyVariables, BadTable,
 use Rattle.rules.specs.declared.Judged.{Judged}
 use Rattle.rules.specs.declared.Judged.TheVariants.{Fine, Refused}
 use Rattle.rules.specs.Refusals.{◌when◌, as_in, first_due, unless_refused}
-use Rattle.rules.specs.Table.{row_words, words_of_rows, new_row, hard_row, with_weight, bad_lits, same_clause}
+use Rattle.rules.specs.Table.{row_words, row_words_of, new_row, hard_row, bad_lits}
 use Rattle.rules.specs.Text.{bytes, line_feed, space, minus}
 use Rattle.rules.specs.Reader.{stands, number_at, ended, on_number}
 
@@ -120,41 +120,26 @@ wcnf_read_why most s room = header_why most s room (header_of s)
 abbrev pub clause_row : ℕ → ℕ → Lits → Row
 clause_row top w l = cond (leb top w) (hard_row l) (new_row l w)
 
--- a row for each clause
-unfoldable pub clause_rows : ℕ → ℕ → List ℕ → ℕ → List Row
-clause_rows zero top s at = []
-clause_rows (suc m) top s at = on_clause s at [] (λ w ls next. clause_row top w (lits_of_members ls) ∷ clause_rows m top s next)
+-- the table that the clauses make
+unfoldable pub clauses_words : ℕ → ℕ → List ℕ → ℕ → List ℕ
+clauses_words zero top s at = []
+clauses_words (suc m) top s at = on_clause s at [] (λ w ls next. row_words_of (clause_row top w (lits_of_members ls)) ++ clauses_words m top s next)
 
--- C-17: "adds up the weights of equal soft clauses at the first one's place, and keeps an equal hard clause once", whose weight word is 0: one more row
--- after those made so far
-unfoldable pub add_row : List Row → Row → List Row
-add_row [] row = row ∷ []
-add_row (r ∷ rs) row = cond (same_clause r row) (with_weight r (r.weight + row.weight) ∷ rs) (r ∷ add_row rs row)
+abbrev pub words_behind_header : List ℕ → WcnfHead → List ℕ
+words_behind_header s (WcnfHead.Figures variables clauses top next line) = clauses_words clauses top s next
+words_behind_header s (WcnfHead.Broken line) = []
 
-unfoldable pub add_rows : List Row → List Row → List Row
-add_rows made [] = made
-add_rows made (r ∷ rs) = add_rows (add_row made r) rs
-
--- the rows that the clauses make
-abbrev pub rows_made : List ℕ → WcnfHead → List Row
-rows_made s (WcnfHead.Figures variables clauses top next line) = add_rows [] (clause_rows clauses top s next)
-rows_made s (WcnfHead.Broken line) = []
-
-unfoldable pub wcnf_rows : List ℕ → List Row
-wcnf_rows s = rows_made s (header_of s)
-
--- the table
 unfoldable pub wcnf_words : List ℕ → List ℕ
-wcnf_words s = words_of_rows (wcnf_rows s)
+wcnf_words s = words_behind_header s (header_of s)
 
-abbrev pub wcnf_read_as : Judged → WcnfHead → List Row → WcnfRead
-wcnf_read_as Fine (WcnfHead.Figures variables clauses top next line) rows = WcnfRead.Table variables (length rows)
-wcnf_read_as Fine (WcnfHead.Broken line) rows = WcnfRead.Refused (BadText line)
-wcnf_read_as (Refused r) head rows = WcnfRead.Refused r
+abbrev pub wcnf_read_as : Judged → WcnfHead → WcnfRead
+wcnf_read_as Fine (WcnfHead.Figures variables clauses top next line) = WcnfRead.Table variables clauses
+wcnf_read_as Fine (WcnfHead.Broken line) = WcnfRead.Refused (BadText line)
+wcnf_read_as (Refused r) head = WcnfRead.Refused r
 
--- variables and rows made, or the refusal
+-- variables and rows, or the refusal
 unfoldable pub wcnf_read : ℕ → List ℕ → ℕ → WcnfRead
-wcnf_read most s room = wcnf_read_as (wcnf_read_why most s room) (header_of s) (wcnf_rows s)
+wcnf_read most s room = wcnf_read_as (wcnf_read_why most s room) (header_of s)
 
 -- the lent words afterwards
 unfoldable pub wcnf_table : ℕ → List ℕ → List ℕ → List ℕ

@@ -119,8 +119,6 @@ pub enum Refusal {
     InputTooLong,
     // The line.
     BadText(u64),
-    // The later row.
-    SameClause(u64),
 }
 
 // A refusal's number and place.

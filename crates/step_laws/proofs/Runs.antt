@@ -13,13 +13,13 @@ use lib.ListN.{get_or, length, replicate, length-append}
 use lib.IntN.{ℤ}
 use Rattle.masks.proofs.Choice.{impossible}
 use Rattle.rules.specs.declared.Refusal.{Refusal}
-use Rattle.rules.specs.declared.Refusal.TheVariants.{TooManyVariables, BadTable, BadCapacity, NoRoom, BadLiterals, BadWeight, SameClause, SumTooLarge}
+use Rattle.rules.specs.declared.Refusal.TheVariants.{TooManyVariables, BadTable, BadCapacity, NoRoom, BadLiterals, BadWeight, SumTooLarge}
 use Rattle.rules.specs.declared.Refusal.TheVariants.{BadDesk, TooManySteps, BadLiteral, BadNaming, BadFit, DeskFull, NothingStands}
 use Rattle.rules.specs.declared.Judged.{Judged}
 use Rattle.rules.specs.declared.Judged.TheVariants.{Fine, Refused}
 use Rattle.literals.specs.Literal.{most_variables}
 use Rattle.rules.specs.Refusals.{refuse, in_order, unless_refused}
-use Rattle.rules.specs.Table.{row_of, row_count, weighs, bad_table, bad_lits, bad_weight, row_why, repeats, row_among_why, rows_why, sum_too_large}
+use Rattle.rules.specs.Table.{row_of, row_count, weighs, bad_table, bad_lits, bad_weight, row_why, rows_why, sum_too_large}
 use Rattle.rules.specs.Desk.{desk_words, most_capacity, most_steps, in_use, capacity, standing, well_formed, load_why, load_step, load_desk, desk_weighs, keeps}
 use Rattle.rules.specs.Decide.{bad_literal, decide_why, decide_step, decide_desk}
 use Rattle.rules.specs.Rewrite.{given, well_fitted, rewrite_why, rewrite_step, rewrite_desk}
@@ -152,14 +152,12 @@ neither-first Fine after h k e = k e
 neither-first (Refused r) after h k e = h e
 
 never-rows : (n : ℕ) (table : List ℕ) (k : ℕ) → rows_why n table k ≡ Refused BadDesk → ⊥
-unfolding rows_why row_among_why row_why
+unfolding rows_why row_why
 never-rows n table zero e = fine-not-ten e
 never-rows n table (suc k) e =
-    neither-first (rows_why n table k) (row_among_why n table k) (never-rows n table k)
-    (neither-first (row_why n k (row_of table k)) (refuse (repeats table k) (SameClause k) Fine)
+    neither-first (rows_why n table k) (row_why n k (row_of table k)) (never-rows n table k)
     (neither-ten (bad_lits n (row_of table k).lits) (BadLiterals k) (refuse (bad_weight (row_of table k)) (BadWeight k) Fine) (λ q. impossible (cc))
     (neither-ten (bad_weight (row_of table k)) (BadWeight k) Fine (λ q. impossible (cc)) fine-not-ten))
-    (neither-ten (repeats table k) (SameClause k) Fine (λ q. impossible (cc)) fine-not-ten))
     e
 
 pub never-load : (n : ℕ) (table : List ℕ) (c : ℕ) (d : List ℕ) → load_why n table c d ≡ Refused BadDesk → ⊥

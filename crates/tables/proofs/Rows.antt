@@ -1,9 +1,8 @@
--- Rows judged in order: of each its own refusal, then 22 if an earlier row is the same clause; the first refusal stays, however many rows follow.
--- And what a reading gives up is at most the rows' weights.
+-- Rows judged in order: the first refusal stays, however many rows follow. And what a reading gives up is at most the rows' weights.
 use Prim.Native.Nat.{ℕ, suc, ◌+◌, ◌*◌, ◌/◌, ◌≤◌, ◌<◌}
-use mathlib.Core.Path.{◌≡◌, refl, ap}
+use mathlib.Core.Path.{◌≡◌, refl, ap, ◌∙◌}
 use mathlib.Core.List.{List}
-use mathlib.Core.Bool.{true, false, not}
+use mathlib.Core.Bool.{not}
 use native.Mathlib.Omega.{arith}
 use native.Mathlib.Nat.{le_refl, zero-add}
 use lib.ListN.{length}
@@ -14,53 +13,32 @@ use native.Mathlib.Decide.{le_ind}
 use Rattle.masks.specs.Masks.{below}
 use Rattle.masks.specs.Sums.{sum}
 use Rattle.literals.specs.Literal.{most_variables}
-use Rattle.masks.proofs.Sums.{sum_more, sum_mono, sum-le, every_true, every-false}
+use Rattle.masks.proofs.Sums.{sum_more, sum_mono, sum-le}
 use Rattle.masks.proofs.Choice.{cond-elim}
 use Rattle.rules.specs.declared.Row.{Row}
 use Rattle.rules.specs.declared.Refusal.{Refusal}
 use Rattle.rules.specs.declared.Judged.{Judged}
 use Rattle.rules.specs.declared.Judged.TheVariants.{Fine, Refused}
-use Rattle.rules.specs.declared.Refusal.TheVariants.{TooManyVariables, BadTable, SameClause, SumTooLarge, BadReading}
+use Rattle.rules.specs.declared.Refusal.TheVariants.{TooManyVariables, BadTable, SumTooLarge, BadReading}
 use Rattle.rules.specs.Refusals.{refuse, in_order}
-use Rattle.rules.specs.Table.{row_words, most_weight, row_in, row_of, row_count, holds, given_up, bad_table, row_why, same_clause, repeats, row_among_why, rows_why}
-use Rattle.rules.specs.Table.{sum_too_large, table_why, weigh_why}
+use Rattle.rules.specs.Table.{row_words, most_weight, row_in, row_of, row_count, holds, given_up, bad_table, row_why, rows_why, sum_too_large, table_why, weigh_why}
 use Rattle.rules.proofs.Judging.{refuse-fine, order-fine}
-use Rattle.words.specs.FirstSame.{FirstSame}
 
 pub rows_none : (v : ℕ) (t : List ℕ) → rows_why v t 0 ≡ Fine
 unfolding rows_why
 rows_none v t = refl
 
-rows_more : (v : ℕ) (t : List ℕ) (i : ℕ) → rows_why v t (i + 1) ≡ in_order (rows_why v t i) (row_among_why v t i)
+pub rows_more : (v : ℕ) (t : List ℕ) (i : ℕ) → rows_why v t (i + 1) ≡ in_order (rows_why v t i) (row_why v i (row_of t i))
 unfolding rows_why
 rows_more v t i = rw add-one
 
--- Row i, read once, where the rows before it are fine: what it earns by itself comes first, then whether a row before it is the same clause.
-module _ (v : ℕ) (t : List ℕ) (i : ℕ) {row : Row} (read : row ≡ row_in t (row_words * i)) (before : rows_why v t i ≡ Fine) where
-  next : rows_why v t (i + 1) ≡ in_order (row_why v i row) (refuse (repeats t i) (SameClause i) Fine)
-  unfolding row_among_why row_of
-  next = rw (rows_more v t i, before, read)
-
-  pub next-refused : (r : Refusal) → row_why v i row ≡ Refused r → rows_why v t (i + 1) ≡ Refused r
-  next-refused r e = rw (next, e)
-
-  found : {first : ℕ} → FirstSame t i row first → first < i → repeats t i ≡ true
-  unfolding repeats row_of
-  found {first} f l = rw (← read) (ap not (every-false i (λ j. not (same_clause (row_of t j) row)) first l (ap not (f.there l))))
-
-  none_found : {first : ℕ} → FirstSame t i row first → i ≤ first → repeats t i ≡ false
-  unfolding repeats row_of
-  none_found f l = rw (← read) (ap not (every_true i (λ j h. ap not (f.before j (omega arith)))))
-
-  pub next-same : {first : ℕ} → row_why v i row ≡ Fine → FirstSame t i row first → first < i → rows_why v t (i + 1) ≡ Refused (SameClause i)
-  next-same e f l = rw (next, e, found f l)
-
-  pub next-other : {first : ℕ} → row_why v i row ≡ Fine → FirstSame t i row first → i ≤ first → rows_why v t (i + 1) ≡ Fine
-  next-other e f l = rw (next, e, none_found f l)
+-- rows that are fine so far leave it to the next
+pub rows_next : (v : ℕ) (t : List ℕ) (i : ℕ) → rows_why v t i ≡ Fine → rows_why v t (i + 1) ≡ row_why v i (row_of t i)
+rows_next v t i e = rows_more v t i ∙ ap (λ (j : Judged). in_order j (row_why v i (row_of t i))) e
 
 stay : (v : ℕ) (t : List ℕ) (r : Refusal) (i : ℕ) → rows_why v t i ≡ Refused r → rows_why v t (suc i) ≡ Refused r
 unfolding rows_why
-stay v t r i e = ap (λ (j : Judged). in_order j (row_among_why v t i)) e
+stay v t r i e = ap (λ (j : Judged). in_order j (row_why v i (row_of t i))) e
 
 -- a refusal among the first rows is that of all of them
 pub rows-refused : (v : ℕ) (t : List ℕ) (r : Refusal) (i n : ℕ) → i ≤ n → rows_why v t i ≡ Refused r → rows_why v t n ≡ Refused r

@@ -1,4 +1,4 @@
--- A part of load's and of the table's refusals that the code judges in one function: rows in order with 5, 6 and 22 of each, then 7.
+-- A part of load's and of the table's refusals that the code judges in one function: "rows in order with 5 before 6, then 7".
 use Rattle.std.specs.Prelude.{ℕ, List}
 use Rattle.rules.specs.declared.Refusal.TheVariants.{SumTooLarge}
 use Rattle.rules.specs.declared.Judged.{Judged}

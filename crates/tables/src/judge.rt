@@ -7,7 +7,7 @@ use crate::inner::sum_over;
 use literals::Literal;
 use rules::{Judged, Refusal, Row};
 use values::row_why;
-use words::inner::{first_same, row_in};
+use words::inner::row_in;
 
 // Table words that are no whole rows, or too many of them.
 pub fn bad_table(table: &[u64]) -> bool
@@ -29,7 +29,7 @@ pub fn table_why(variables: u64, table: &[u64]) -> Judged
     rows_and_sum(variables, table)
 }
 
-// The rows in order with 5, 6 and 22 of each, then 7.
+// The rows in order with 5 before 6, then 7.
 pub fn rows_and_sum(variables: u64, table: &[u64]) -> Judged
     ensures { result ≡ rows_and_sum_why variables table.now }
 {
@@ -51,15 +51,10 @@ fn rows_why(variables: u64, table: &[u64], n: usize) -> Judged
 {
     let mut i = 0;
     while i < n {
-        let row = row_in(table, Row::WORDS * i);
-        let why = row_why(variables, i as u64, row);
+        let why = row_why(variables, i as u64, row_in(table, Row::WORDS * i));
         let Judged::Fine = why else {
             return why;
         };
-        let first = first_same(table, i, row);
-        if first < i {
-            return Judged::Refused(Refusal::SameClause(i as u64));
-        }
         i += 1;
     }
     Judged::Fine

@@ -13,7 +13,7 @@ use Rattle.rules.specs.declared.Choice.{Choice}
 use Rattle.rules.specs.declared.Refusal.{Refusal}
 use Rattle.rules.specs.declared.Refusal.TheVariants.{TooManyVariables, BadTable, BadCapacity, NoRoom, BadLiterals, BadWeight, SumTooLarge}
 use Rattle.rules.specs.declared.Refusal.TheVariants.{BadReading, BadBudget, BadDesk, TooManySteps, BadLiteral, BadNaming, BadFit, DeskFull}
-use Rattle.rules.specs.declared.Refusal.TheVariants.{NothingStands, InputTooLong, BadText, SameClause}
+use Rattle.rules.specs.declared.Refusal.TheVariants.{NothingStands, InputTooLong, BadText}
 use Rattle.rules.specs.declared.Judged.{Judged}
 use Rattle.rules.specs.declared.Judged.TheVariants.{Fine, Refused}
 use Rattle.rules.specs.declared.Parsed.{Parsed}
@@ -23,7 +23,7 @@ use Rattle.rules.specs.declared.HeadRead.{HeadRead}
 use Rattle.rules.specs.Refusals.{number_of, place_of, refuse, in_order}
 use Rattle.rules.proofs.Admissible.{whole-rows}
 use Rattle.masks.specs.Masks.{below}
-use Rattle.rules.specs.Table.{row_words, most_rows, row_of, row_count, bad_table, bad_lits, bad_weight, row_why, repeats, row_among_why}
+use Rattle.rules.specs.Table.{row_words, most_rows, row_of, row_count, bad_table, bad_lits, bad_weight, row_why}
 use Rattle.rules.specs.Table.{rows_why, sum_too_large, table_why, weighs, hard_hold, weigh_why, weighed_as, weighed, row_words_of}
 use Rattle.rules.specs.Desk.{most_capacity, most_steps, desk_words, in_use, capacity, standing, decisions, well_formed, load_why}
 use Rattle.rules.specs.Decide.{bad_literal, decide_why}
@@ -65,7 +65,6 @@ number_small DeskFull = (omega arith, omega arith)
 number_small NothingStands = (omega arith, omega arith)
 number_small InputTooLong = (omega arith, omega arith)
 number_small (BadText line) = (omega arith, omega arith)
-number_small (SameClause row) = (omega arith, omega arith)
 
 pub as-small : {j k : Judged} → j ≡ k → Small k → Small j
 as-small e s = rw e s
@@ -78,23 +77,21 @@ order_small : (first after : Judged) → Small first → Small after → Small (
 order_small Fine after here then = then
 order_small (Refused r) after here then = here
 
-row-place : (i : ℕ) (t u w : Bool)
-    → place_in (in_order (refuse t (BadLiterals i) (refuse u (BadWeight i) Fine)) (refuse w (SameClause i) Fine)) ≤ i
-row-place i true u w = omega arith
-row-place i false true w = omega arith
-row-place i false false true = omega arith
-row-place i false false false = omega arith
+row-place : (n i : ℕ) (t u : Bool) → place_in (refuse t (BadLiterals i) (refuse u (BadWeight i) Fine)) ≤ i
+row-place n i true u = omega arith
+row-place n i false true = omega arith
+row-place n i false false = omega arith
 
 rows-place : (n : ℕ) (table : List ℕ) (k : ℕ) → place_in (rows_why n table k) ≤ k
-unfolding rows_why row_among_why row_why
+unfolding rows_why row_why
 rows-place n table zero = omega arith
 rows-place n table (suc k) =
     by_first
     (rows_why n table k)
     (rows-place n table k)
-    (row-place k (bad_lits n (row_of table k).lits) (bad_weight (row_of table k)) (repeats table k))
+    (row-place n k (bad_lits n (row_of table k).lits) (bad_weight (row_of table k)))
   where
-    by_first : (j : Judged) → place_in j ≤ k → place_in (row_among_why n table k) ≤ k → place_in (in_order j (row_among_why n table k)) ≤ suc k
+    by_first : (j : Judged) → place_in j ≤ k → place_in (row_why n k (row_of table k)) ≤ k → place_in (in_order j (row_why n k (row_of table k))) ≤ suc k
     by_first Fine a b = omega (arith, b)
     by_first (Refused r) a b = omega (arith, a)
 

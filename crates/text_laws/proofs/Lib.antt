@@ -6,7 +6,6 @@ pub mod Branches
 pub mod Pieces
 pub mod LentBytes
 pub mod RowWords
-pub mod MadeRows
 pub mod Reading
 pub mod Writing
 pub mod Lines

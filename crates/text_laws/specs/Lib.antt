@@ -3,4 +3,3 @@ pub mod Pieces
 pub mod Lengths
 pub mod Ends
 pub mod Lines
-pub mod TableRows

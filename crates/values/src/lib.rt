@@ -7,5 +7,5 @@ pub use parts::{remnant, satisfied};
 pub use refusals::numbered;
 pub use rows::{
     bad_lits, bad_mark, bad_weight, breaks, charge_on, given_up, holds, is_hard, row_why,
-    same_clause, with_weight,
+    with_weight,
 };

@@ -27,6 +27,5 @@ pub fn numbered(why: Refusal) -> Numbered
         Refusal::NothingStands => Numbered(16, 0),
         Refusal::InputTooLong => Numbered(19, 0),
         Refusal::BadText(line) => Numbered(20, line),
-        Refusal::SameClause(row) => Numbered(22, row),
     }
 }

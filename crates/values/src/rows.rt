@@ -1,6 +1,6 @@
 // A row: what it adds to a reading's weight, and what may be wrong with it.
 ghost use Rattle.std.specs.Prelude.{◌≡◌, cond};
-ghost use Rattle.rules.specs.Table.{with_weight, is_hard, holds, given_up, breaks, bad_lits, bad_mark, bad_weight, row_why, same_clause};
+ghost use Rattle.rules.specs.Table.{with_weight, is_hard, holds, given_up, breaks, bad_lits, bad_mark, bad_weight, row_why};
 
 use literals::Lits;
 use rules::{Judged, Refusal, Row};
@@ -54,13 +54,6 @@ pub fn row_why(variables: u64, i: u64, row: Row) -> Judged
         return Judged::Refused(Refusal::BadWeight(i));
     }
     Judged::Fine
-}
-
-// The same literals and the same mark, whatever the weights.
-pub fn same_clause(a: Row, b: Row) -> bool
-    ensures { result ≡ same_clause a b }
-{
-    a.lits.is_same(b.lits) & (a.mark == b.mark)
 }
 
 // A full reading makes one of the literals true.

@@ -7,12 +7,8 @@ pub mod RestJudged
 pub mod Shapes
 pub mod Ends
 pub mod Orders
-pub mod SameClause
-pub mod Gathering
-pub mod Kept
 pub mod Members
 pub mod Says
-pub mod Split
 pub mod Literals
 pub mod Faults
 pub mod RowsSaid

@@ -17,7 +17,7 @@ use Rattle.rules.specs.declared.Judged.{Judged}
 use Rattle.rules.specs.declared.Judged.TheVariants.{Fine, Refused}
 use Rattle.rules.specs.Refusals.{refuse}
 use Rattle.rules.specs.Table.{bad_lits}
-use Rattle.rules.specs.WcnfReader.{some_above, bad_members, header_of, add_rows, wcnf_rows, wcnf_read_why}
+use Rattle.rules.specs.WcnfReader.{some_above, bad_members, header_of, wcnf_read_why, wcnf_words}
 use Rattle.text_laws.specs.Lines.{first_lines}
 use Rattle.wcnf_laws.specs.Members.{SameMembers, SameClauses, none, next}
 use Rattle.wcnf_laws.specs.Said.{clauses_at, SaysSame}
@@ -26,7 +26,7 @@ use Rattle.wcnf_laws.specs.Order.{faults_first, Shape, whole, headless, cut, jud
 use Rattle.wcnf_laws.specs.Given.{figures_first}
 use Rattle.wcnf_laws.specs.Same.{DifferOnly}
 use Rattle.wcnf_laws.specs.Said.{SameRead}
-use Rattle.wcnf_laws.proofs.Members.{rows_of_clauses, rows-of-clauses, members-same, says-make, make-read}
+use Rattle.wcnf_laws.proofs.Members.{words_of_clauses, words-of-clauses, members-same, same-words, same_answer, same-table}
 use Rattle.wcnf_laws.proofs.ClauseLines.{clause-read}
 use Rattle.wcnf_laws.proofs.RestJudged.{first-here, tail-alike}
 use Rattle.wcnf_laws.proofs.Shapes.{shape_of}
@@ -60,13 +60,12 @@ figured s f held is =
           ap (λ (m : ℕ). clauses_at m s p.0.next) (sym held.whole) ∙ clauses-said s f.lines p.0.next held.lines p.1;
     }
 
--- and so are its rows
-pub form-rows : (s : List ℕ) (f : Form) → Held f → s ≡ form_text f → wcnf_rows s ≡ add_rows [] (rows_of_clauses f.header.top (clauses_said f.lines))
-unfolding wcnf_rows
-form-rows s f held is =
+-- and so is its table
+pub form-words : (s : List ℕ) (f : Form) → Held f → s ≡ form_text f → wcnf_words s ≡ words_of_clauses f.header.top (clauses_said f.lines)
+unfolding wcnf_words
+form-words s f held is =
     let x = figured s f held is in
-    rw x.header
-    (ap (add_rows []) (rows-of-clauses f.header.clauses f.header.top s x.next ∙ ap (rows_of_clauses f.header.top) x.said))
+    rw x.header (words-of-clauses f.header.clauses f.header.top s x.next ∙ ap (words_of_clauses f.header.top) x.said)
 
 -- ---- texts that differ only so
 
@@ -98,14 +97,19 @@ module _ (f g : Form) (p : Held f) (q : Held g) (only : DifferOnly f g) where
         line-here = 1 + length f.comments;
         line-there = 1 + length g.comments;
         here = x.header;
-        there = rw (only.figures.variables, count, only.figures.top) y.header;
+        there = rw (only.variables, count, only.top) y.header;
         same =
             subst (λ (cs : List (ℕ × List ℤ)). SameClauses cs (clauses_at f.header.clauses (form_text g) y.next)) (sym x.said)
             (subst (SameClauses (clauses_said f.lines)) (sym (ap (λ (m : ℕ). clauses_at m (form_text g) y.next) count ∙ y.said)) only.clauses);
       }
 
   pub same_read : SameRead (form_text f) (form_text g)
-  same_read = make-read (form_text f) (form_text g) (says-make (form_text f) (form_text g) says_same)
+  same_read =
+      record {
+        words = same-words (form_text f) (form_text g) says_same;
+        answer = same_answer (form_text f) (form_text g) says_same;
+        table = same-table (form_text f) (form_text g) says_same;
+      }
 
 -- ---- judged alike
 
@@ -147,7 +151,7 @@ pub same-judged : (f g : Form) → Held f → Held g → DifferOnly f g → (mos
 same-judged f g p q only most room =
     let count = as_many f g p q only in
     whole-judged (form_text f) most room f p refl
-    ∙ rw (only.figures.variables, count)
+    ∙ rw (only.variables, count)
     (ap (figures_first most room g.header) (faults-same 0 g.header.variables Fine only.clauses))
     ∙ sym (whole-judged (form_text g) most room g q refl)
 

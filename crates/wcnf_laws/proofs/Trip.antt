@@ -1,6 +1,5 @@
 -- What is written of an admissible table is read back: it is a text of the form, with one space in each gap, that says of each row its weight and its literals,
--- and of a hard row top. Each soft weight is below the sum of all and one more, so that the hard rows alone are read as hard; and no two rows are the same
--- clause, so that each stays a row.
+-- and of a hard row top. Each soft weight is below the sum of all and one more, so that the hard rows alone are read as hard.
 use Prim.Native.Nat.{ℕ, zero, suc, ◌+◌, ◌*◌, ◌^◌, ◌<◌, ◌≤◌}
 use mathlib.Core.Path.{◌≡◌, refl, sym, ap, ap₂, ◌∙◌}
 use mathlib.Core.Bool.{Bool, true, false, cond}
@@ -23,16 +22,14 @@ use Rattle.rules.specs.declared.Row.{Row}
 use Rattle.rules.specs.declared.WcnfRead.{WcnfRead}
 use Rattle.rules.specs.declared.Refusal.TheVariants.{NoRoom}
 use Rattle.rules.specs.declared.Judged.TheVariants.{Fine, Refused}
-use Rattle.rules.specs.Table.{row_words, most_rows, hard_mark, is_hard, row_of, row_count, row_words_of, words_of_rows, bad_lits, same_clause, table_why}
+use Rattle.rules.specs.Table.{row_words, most_rows, hard_mark, is_hard, row_of, row_count, row_words_of, bad_lits, table_why}
 use Rattle.rules.specs.Text.{bytes, line_feed, space, minus, digit_zero, most_digits, number_text, text_why}
 use Rattle.rules.specs.Wcnf.{top_of, spaced_literal, spaced_lits, clause_text, clauses_text, wcnf_text}
-use Rattle.rules.specs.WcnfReader.{lits_of_members, clause_row, add_row, add_rows, wcnf_rows, wcnf_read_why, wcnf_words, wcnf_read, wcnf_table}
+use Rattle.rules.specs.WcnfReader.{lits_of_members, clause_row, wcnf_read_why, wcnf_words, wcnf_read, wcnf_table}
 use Rattle.rules.specs.Wcnf.{wcnf_write_why}
 use Rattle.rules.proofs.Admissible.{RowFine, TableFine, table-fine}
 use Rattle.rules.proofs.Judging.{order-fine, words-fine}
 use Rattle.text_laws.proofs.LentBytes.{text-written, text-at-front}
-use Rattle.text_laws.specs.TableRows.{table_rows}
-use Rattle.text_laws.proofs.MadeRows.{rows_long}
 use Rattle.text_laws.proofs.Rows.{words_from, words-all}
 use Rattle.wcnf_laws.specs.Back.{ReadBack, Returns}
 use Rattle.wcnf_laws.specs.Form.{gap, literals_bytes, ClauseLine, clause_bytes, HeaderLine, header_bytes, Form, lines_text, under_comments, form_text}
@@ -40,12 +37,10 @@ use Rattle.wcnf_laws.specs.Form.{Each, LiteralHeld, ClauseHeld, Held, numbers_of
 use Rattle.wcnf_laws.specs.Order.{faults_first}
 use Rattle.wcnf_laws.specs.Given.{figures_first}
 use Rattle.wcnf_laws.proofs.Literals.{members_of, lits-back, bad-back}
-use Rattle.wcnf_laws.proofs.Members.{rows_of_clauses, file-answered}
+use Rattle.wcnf_laws.proofs.Members.{words_of_clauses}
 use Rattle.wcnf_laws.proofs.HeaderLines.{p_code, wcnf_name}
 use Rattle.wcnf_laws.proofs.Orders.{whole-judged}
-use Rattle.wcnf_laws.specs.Rows.{weight_alike, others}
-use Rattle.wcnf_laws.proofs.Gathering.{front-takes}
-use Rattle.wcnf_laws.proofs.Says.{figured, form-rows}
+use Rattle.wcnf_laws.proofs.Says.{figured, form-words}
 
 -- ---- a row's line
 
@@ -229,42 +224,6 @@ top_small : (n : ℕ) (table : List ℕ) → TableFine n table → top_of table 
 unfolding top_of
 top_small n table fine = omega (arith, fine.light)
 
--- ---- rows that are apart stay as they are
-
-rows_words : (d i : ℕ) (table : List ℕ) → words_of_rows (table_rows d i table) ≡ words_from d i table
-unfolding table_rows words_of_rows words_from
-rows_words zero i table = refl
-rows_words (suc d) i table = ap (λ (words : List ℕ). row_words_of (row_of table i) ++ words) (rows_words d (suc i) table)
-
-module _ (table : List ℕ) where
-  -- none of the rows from row i on is the same clause as this
-  abbrev NoneSame : Row → ℕ → ℕ → Type 0
-  NoneSame row d i = (j : ℕ) → i ≤ j → j < i + d → same_clause row (row_of table j) ≡ false
-
-  none-weighs : (row : Row) (d i : ℕ) → NoneSame row d i → weight_alike row (table_rows d i table) ≡ 0
-  unfolding table_rows weight_alike
-  none-weighs row zero i w = refl
-  none-weighs row (suc d) i w = rw (w i (omega arith) (omega arith), none-weighs row d (suc i) (λ j low high. w j (omega arith) (omega arith)))
-
-  all_others : (row : Row) (d i : ℕ) → NoneSame row d i → others row (table_rows d i table) ≡ table_rows d i table
-  unfolding table_rows others
-  all_others row zero i w = refl
-  all_others row (suc d) i w =
-      rw (w i (omega arith) (omega arith))
-      (ap (λ (rows : List Row). row_of table i ∷ rows) (all_others row d (suc i) (λ j low high. w j (omega arith) (omega arith))))
-
-  stay-apart : (d i : ℕ) → ((j k : ℕ) → j < k → k < i + d → same_clause (row_of table j) (row_of table k) ≡ false)
-      → add_rows [] (table_rows d i table) ≡ table_rows d i table
-  unfolding table_rows add_row add_rows
-  stay-apart zero i w = refl
-  stay-apart (suc d) i w =
-      let row = row_of table i in
-      let rest = table_rows d (suc i) table in
-      let apart : NoneSame row d (suc i) = λ j low high. w i j (omega arith) (omega arith) in
-      front-takes row [] rest
-      ∙ rw (none-weighs row d (suc i) apart, all_others row d (suc i) apart, add-zero row.weight)
-      (ap (λ (rows : List Row). row ∷ rows) (stay-apart d (suc i) (λ j k less high. w j k less (omega arith))))
-
 module _ (n top : ℕ) (table : List ℕ) where
   abbrev AllFaultless : ℕ → ℕ → Type 0
   AllFaultless d i = (j : ℕ) → i ≤ j → j < i + d → Faultless n top (row_of table j)
@@ -293,16 +252,16 @@ module _ (n top : ℕ) (table : List ℕ) where
       )
       (none-faulted d (suc i) (suc k) (λ j low high. w j (omega arith) (omega arith)))
 
-  said-rows : (d i : ℕ) → AllFaultless d i → rows_of_clauses top (said_from d i) ≡ table_rows d i table
-  unfolding lines_of line_of clauses_said rows_of_clauses table_rows
-  said-rows zero i w = refl
-  said-rows (suc d) i w =
+  said-words : (d i : ℕ) → AllFaultless d i → words_of_clauses top (said_from d i) ≡ words_from d i table
+  unfolding lines_of line_of clauses_said words_of_clauses words_from
+  said-words zero i w = refl
+  said-words (suc d) i w =
       let row = row_of table i in
       let f = w i (omega arith) (omega arith) in
       let lits = ap lits_of_members (spaced-said (members_of 0 most_variables row.lits)) ∙ lits-back row.lits f.held f.parted in
-      ap₂ (λ (r : Row) (rows : List Row). r ∷ rows)
+      ap₂ (λ (r : Row) (words : List ℕ). row_words_of r ++ words)
       (ap (clause_row top (line_weight top row)) lits ∙ f.back)
-      (said-rows d (suc i) (λ j low high. w j (omega arith) (omega arith)))
+      (said-words d (suc i) (λ j low high. w j (omega arith) (omega arith)))
 
 module _ (n : ℕ) (table : List ℕ) (ok : table_why n table ≡ Fine) where
   abbrev text : List ℕ
@@ -338,15 +297,11 @@ module _ (n : ℕ) (table : List ℕ) (ok : table_why n table ≡ Fine) where
       whole-judged text most_rows room f written_held (written-form n table)
       ∙ ap (figures_first most_rows room (header_of_table n table)) (none-faulted n (top_of table) table (row_count table) 0 0 all-faultless)
 
-  all-rows : wcnf_rows text ≡ table_rows (row_count table) 0 table
-  all-rows =
-      form-rows text f written_held (written-form n table)
-      ∙ ap (add_rows []) (said-rows n (top_of table) table (row_count table) 0 all-faultless)
-      ∙ stay-apart table (row_count table) 0 (λ j k less high. fine.apart j k less (omega arith))
-
   all_words : wcnf_words text ≡ table
-  unfolding wcnf_words
-  all_words = ap words_of_rows all-rows ∙ rows_words (row_count table) 0 table ∙ words-all (row_count table) table fine.whole
+  all_words =
+      form-words text f written_held (written-form n table)
+      ∙ said-words n (top_of table) table (row_count table) 0 all-faultless
+      ∙ words-all (row_count table) table fine.whole
 
   why-fine : (room : ℕ) → length table ≤ room → wcnf_read_why most_rows text room ≡ Fine
   why-fine room h =
@@ -367,11 +322,8 @@ module _ (n : ℕ) (table : List ℕ) (ok : table_why n table ≡ Fine) where
       )
 
   answered : (room : ℕ) → length table ≤ room → wcnf_read most_rows text room ≡ WcnfRead.Table n (row_count table)
-  answered room h =
-      let x = figured text f written_held (written-form n table) in
-      file-answered most_rows text room (why-fine room h) n (row_count table) (top_of table) x.next 1 x.header
-      ∙ ap (λ (rows : List Row). WcnfRead.Table n (length rows)) all-rows
-      ∙ ap (WcnfRead.Table n) (rows_long (row_count table) 0 table)
+  unfolding wcnf_read
+  answered room h = rw (why-fine room h, (figured text f written_held (written-form n table)).header)
 
   lent-words : (found : List ℕ) → length table ≤ length found → wcnf_table most_rows text found ≡ table ++ drop (length table) found
   unfolding wcnf_table

@@ -65,12 +65,6 @@ examples =
     (wcnf_answer (bytes "p wcnf 1 2 9\n9 1 0\n9 -1 0\n") ++ wcnf_answer (bytes "p wcnf 1 2 9\n8 1 0\n9 -1 0\n"))
     (bytes "c nodes 3\ns UNSATISFIABLE\nc nodes 3\no 8\ns OPTIMUM FOUND\nv -1\n")
     ∷ example "refused by the reader, and by load"
-    (wcnf_answer (bytes "p wcnf 1 2 9\n1 1 0\n9 2 0\n") ++ wcnf_answer (bytes "p wcnf 1 2 9\n1 1 0\n0 -1 0\n"))
+    (wcnf_answer (bytes "p wcnf 1 2 9\n1 1 0\n9 2 0\n") ++ wcnf_answer (bytes "p wcnf 1 2 9\n1 1 0\n0 1 0\n"))
     (bytes "c refused: number 5, place 1\ns UNKNOWN\nc refused: number 6, place 1\ns UNKNOWN\n")
-    ∷ example "equal soft clauses are one, at the first one's place, of their sum, which may reach top; a hard one stays once, beside a soft one"
-    (wcnf_words (bytes "p wcnf 2 6 9\n5 1 -2 0\n3 2 0\n9 2 0\n4 -2 1 1 0\n10 2 0\n8 0\n"))
-    (row (x 1 ∷ not-x 2 ∷ []) 9 ++ (row (x 2 ∷ []) 3 ++ (hard (x 2 ∷ []) ++ row [] 8)))
-    ∷ example "weight 0 twice is 6 at the row, not at the clause"
-    (wcnf_answer (bytes "p wcnf 1 4 9\n1 1 0\n2 1 0\n0 -1 0\n0 -1 0\n"))
-    (bytes "c refused: number 6, place 1\ns UNKNOWN\n")
     ∷ []

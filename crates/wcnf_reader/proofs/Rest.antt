@@ -1,27 +1,28 @@
--- What is read behind the header, refused or fine, is what the whole text comes to. Where all is fine there are no more clauses than may be, and room
--- for a row for each.
+-- What is read behind the header, refused or fine, is what the whole text comes to. Where all is fine there is room for the words, so that
+-- storing them one by one is putting them in front of the rest.
 use Prim.Native.Nat.{ℕ, suc, ◌+◌, ◌*◌, ◌<◌, ◌≤◌}
-use mathlib.Core.Path.{◌≡◌, ◌∙◌}
-use mathlib.Core.List.{List, []}
+use mathlib.Core.Path.{◌≡◌, refl, ◌∙◌}
+use mathlib.Core.List.{List}
+use native.Mathlib.Nat.{zero-add}
 use native.Mathlib.Omega.{arith}
 use borrow.Author.Tests.{ltb-false, lt-ltb, le-ltb}
 use lib.Dec.{ltb}
 use lib.ListN.{length}
+use lib.Seq.{sets, sets-eq}
 use Rattle.literals.specs.Literal.{most_variables}
-use Rattle.rules.specs.declared.Row.{Row}
 use Rattle.rules.specs.declared.Refusal.{Refusal}
 use Rattle.rules.specs.declared.Refusal.TheVariants.{TooManyVariables, BadTable, NoRoom, BadText}
 use Rattle.rules.specs.declared.Judged.{Judged}
 use Rattle.rules.specs.declared.Judged.TheVariants.{Fine, Refused}
 use Rattle.rules.specs.declared.WcnfHead.{WcnfHead}
 use Rattle.rules.specs.declared.WcnfRead.{WcnfRead}
-use Rattle.rules.specs.Table.{row_words, most_rows}
-use Rattle.rules.specs.WcnfReader.{header_of, clauses_why, header_why, wcnf_read_why, clause_rows, add_rows, wcnf_rows, wcnf_words, wcnf_read, wcnf_table}
+use Rattle.rules.specs.Table.{row_words}
+use Rattle.rules.specs.WcnfReader.{header_of, clauses_why, header_why, wcnf_read_why, clauses_words, wcnf_words, wcnf_read, wcnf_table}
 use Rattle.rules.proofs.Judging.{refuse-fine}
 use Rattle.text_laws.proofs.Matched.{matched}
-use Rattle.wcnf_reader.specs.Made.{in_front}
 use Rattle.wcnf_reader.specs.Behind.{read_behind, stored_behind}
 use Rattle.wcnf_headers.proofs.Heading.{line_small}
+use Rattle.wcnf_reader.proofs.Turns.{words-length}
 
 -- ---- the header's figures, in order
 
@@ -41,13 +42,13 @@ module _ (most : ℕ) (s : List ℕ) (room n m top next line : ℕ) where
   pub by-clauses : (j : Judged) → n ≤ most_variables → m ≤ most → row_words * m ≤ room → j ≡ clauses_why m 0 n s next (line + 1) → j ≡ why
   by-clauses j g h i e = rw (le-ltb most_variables n g, le-ltb most m h, le-ltb room (row_words * m) i) e
 
-  -- where all is fine
-  fits : why ≡ Fine → (m ≤ most) × (row_words * m ≤ room)
+  -- where all is fine there is room
+  fits : why ≡ Fine → row_words * m ≤ room
   fits e =
       let p1 = refuse-fine (ltb most_variables n) TooManyVariables _ e in
       let p2 = refuse-fine (ltb most m) BadTable _ p1.1 in
       let p3 = refuse-fine (ltb room (row_words * m)) NoRoom _ p2.1 in
-      (ltb-false most m p2.0, ltb-false room (row_words * m) p3.0)
+      ltb-false room (row_words * m) p3.0
 
 -- the header's line is one of the text's
 pub head-line : (s : List ℕ) (n m top next line : ℕ) → header_of s ≡ WcnfHead.Figures n m top next line → line ≤ length s + 1
@@ -61,9 +62,6 @@ module _ (most : ℕ) (s table : List ℕ) (n m top next line : ℕ) (j : Judged
   abbrev answer : WcnfRead
   answer = read_behind most s (length table) n m top next line
 
-  abbrev rows : List Row
-  rows = add_rows [] (clause_rows m top s next)
-
   abbrev words : List ℕ
   words = stored_behind most s table n m top next line
 
@@ -71,14 +69,13 @@ module _ (most : ℕ) (s table : List ℕ) (n m top next line : ℕ) (j : Judged
   unfolding read_behind stored_behind
   behind-refused r e = let f = matched why-is e in (rw f, rw f)
 
-  pub behind-fine : (made : ℕ) (after : List ℕ) → j ≡ Fine → made ≡ length rows → after ≡ in_front rows table
-      → (WcnfRead.Table n made ≡ answer) × (after ≡ words)
+  pub behind-fine : j ≡ Fine → (WcnfRead.Table n m ≡ answer) × (sets table 0 (clauses_words m top s next) ≡ words)
   unfolding read_behind stored_behind
-  behind-fine made after e count stored = let f = matched why-is e in (rw (f, count), rw f stored)
+  behind-fine e = let f = matched why-is e in (rw f, rw f)
 
   -- what storing the rows expects
-  pub behind-room : most ≤ most_rows → j ≡ Fine → (m ≤ most_rows) × (row_words * m ≤ length table)
-  behind-room le e = let f = fits most s (length table) n m top next line (matched why-is e) in (omega arith, f.1)
+  pub behind-room : j ≡ Fine → row_words * m ≤ length table
+  behind-room e = fits most s (length table) n m top next line (matched why-is e)
 
 -- ---- the whole text
 
@@ -90,14 +87,20 @@ module _ (most : ℕ) (s table : List ℕ) where
 
   module _ (n m top next line : ℕ) (h : header_of s ≡ WcnfHead.Figures n m top next line) where
     answer-is : read_behind most s (length table) n m top next line ≡ wcnf_read most s (length table)
-    unfolding read_behind wcnf_read wcnf_read_why wcnf_rows
+    unfolding read_behind wcnf_read wcnf_read_why
     answer-is = rw h
 
-    words_are : stored_behind most s table n m top next line ≡ wcnf_table most s table
-    unfolding stored_behind in_front wcnf_table wcnf_read_why wcnf_words wcnf_rows
-    words_are = rw h
+    words_are : (j : Judged) → header_why most s (length table) (WcnfHead.Figures n m top next line) ≡ j
+        → stored_behind most s table n m top next line ≡ wcnf_table most s table
+    unfolding stored_behind wcnf_table wcnf_read_why wcnf_words
+    words_are Fine e =
+        let words = clauses_words m top s next in
+        let room : 0 + length words ≤ length table = omega (arith, words-length m top s next, fits most s (length table) n m top next line e) in
+        rw (h, e) (sets-eq words table 0 room ∙ rw (zero-add (length words)))
+    words_are (Refused r) e = rw (h, e)
 
     pub behind-read : (answer : WcnfRead) (after : List ℕ)
         → (answer ≡ read_behind most s (length table) n m top next line) × (after ≡ stored_behind most s table n m top next line)
         → (answer ≡ wcnf_read most s (length table)) × (after ≡ wcnf_table most s table)
-    behind-read answer after rest = (rest.0 ∙ answer-is, rest.1 ∙ words_are)
+    behind-read answer after rest =
+        (rest.0 ∙ answer-is, rest.1 ∙ words_are (header_why most s (length table) (WcnfHead.Figures n m top next line)) refl)

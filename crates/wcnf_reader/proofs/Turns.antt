@@ -1,25 +1,26 @@
--- The clauses, one at a time: what the judgement and the rows come to behind a clause that was read, and behind one that breaks the form.
-use Prim.Native.Nat.{ℕ, suc, ◌+◌, ◌-◌, ◌^◌, ◌<◌, ◌≤◌}
-use mathlib.Core.Path.{◌≡◌, refl, ap, ◌∙◌}
+-- The clauses, one at a time: what the judgement and the words come to behind a clause that was read, and behind one that breaks the form.
+use Prim.Native.Nat.{ℕ, zero, suc, ◌+◌, ◌-◌, ◌*◌, ◌<◌, ◌≤◌}
+use mathlib.Core.Path.{◌≡◌, refl, sym, ap, ◌∙◌}
 use mathlib.Core.Bool.{Bool, true, false}
-use mathlib.Core.List.{List, [], ◌∷◌}
+use mathlib.Core.List.{List, [], ◌++◌}
 use native.Mathlib.Omega.{arith}
 use borrow.Author.Tests.{le-leb, lt-leb}
-use lib.Dec.{eqb, leb}
+use lib.Dec.{eqb}
 use lib.IntN.{ℤ}
-use lib.ListN.{length}
-use Rattle.masks.proofs.Choice.{impossible, cond-elim}
+use lib.ListN.{length, length-append}
+use lib.Seq.{sets}
+use Rattle.masks.proofs.Choice.{impossible}
+use Rattle.masks.proofs.Words.{sets-append}
 use Rattle.literals.specs.declared.Lits.{Lits}
 use Rattle.rules.specs.declared.Row.{Row}
 use Rattle.rules.specs.declared.Parsed.{Parsed}
 use Rattle.rules.specs.declared.Refusal.TheVariants.{BadText, BadLiterals}
 use Rattle.rules.specs.declared.Judged.TheVariants.{Fine, Refused}
 use Rattle.rules.specs.Reader.{number_at, on_number}
-use Rattle.rules.specs.Table.{new_row, hard_row}
-use Rattle.rules.specs.Text.{most_digits}
+use Rattle.rules.specs.Table.{row_words, new_row, hard_row, row_words_of}
 use Rattle.rules.specs.WcnfReader.{MembersRead, members, broken_line, members_from, on_members, on_clause, lits_of_members, bad_members}
-use Rattle.rules.specs.WcnfReader.{clauses_why, clause_row, clause_rows, add_row, add_rows}
-use Rattle.text_laws.proofs.Numbers.{number-found}
+use Rattle.rules.specs.WcnfReader.{clauses_why, clause_row, clauses_words}
+use Rattle.text_laws.proofs.RowWords.{row_words_lem}
 use Rattle.wcnf_pieces.specs.declared.ClauseRead.{ClauseRead}
 use Rattle.wcnf_pieces.specs.Clauses.{clause_at}
 
@@ -113,41 +114,57 @@ module _ (top w : ℕ) (lits : Lits) where
   pub row-soft : w < top → clause_row top w lits ≡ new_row lits w
   row-soft h = rw (lt-leb top w h)
 
--- it weighs no more than ten digits say
-pub row-light : (variables top : ℕ) (s : List ℕ) (at w : ℕ) (lits : Lits) (bad : Bool) (next : ℕ) → clause_at variables s at ≡ ClauseRead.Clause w lits bad next
-    → (clause_row top w lits).weight < 10 ^ most_digits
-row-light variables top s at w lits bad next e =
-    let light = (number-found s at w _ (told variables s at w lits bad next e).number).small in
-    cond-elim (λ r. r.weight < 10 ^ most_digits) (leb top w) (hard_row lits) (new_row lits w) (λ _. omega arith) (λ _. light)
-
--- ---- the rows
+-- ---- the words
 
 module _ (k variables top : ℕ) (s : List ℕ) (at : ℕ) where
-  rows-broken : clause_at variables s at ≡ ClauseRead.Broken → clause_rows (suc k) top s at ≡ []
-  unfolding clause_rows
-  rows-broken e = broken-clause variables s at [] _ e
+  pub words-broken : clause_at variables s at ≡ ClauseRead.Broken → clauses_words (suc k) top s at ≡ []
+  unfolding clauses_words
+  words-broken e = broken-clause variables s at [] _ e
 
-  rows_next : (w : ℕ) (lits : Lits) (bad : Bool) (next : ℕ) → clause_at variables s at ≡ ClauseRead.Clause w lits bad next
-      → clause_rows (suc k) top s at ≡ clause_row top w lits ∷ clause_rows k top s next
-  unfolding clause_rows
-  rows_next w lits bad next e = let t = told variables s at w lits bad next e in rw (t.number, t.read, t.made)
+  pub words-next : (w : ℕ) (lits : Lits) (bad : Bool) (next : ℕ) → clause_at variables s at ≡ ClauseRead.Clause w lits bad next
+      → clauses_words (suc k) top s at ≡ row_words_of (clause_row top w lits) ++ clauses_words k top s next
+  unfolding clauses_words
+  words-next w lits bad next e = let t = told variables s at w lits bad next e in rw (t.number, t.read, t.made)
 
--- added to those made so far: the rows of the clauses from clause i on, of m
-module _ (top : ℕ) (s : List ℕ) (m i at : ℕ) (made : List Row) where
-  pub left-broken : (variables : ℕ) → i < m → clause_at variables s at ≡ ClauseRead.Broken → add_rows made (clause_rows (m - i) top s at) ≡ made
-  unfolding add_rows
+pub words-none : (top : ℕ) (s : List ℕ) (at : ℕ) → clauses_words 0 top s at ≡ []
+unfolding clauses_words
+words-none top s at = refl
+
+-- stored behind those that are: the words of the clauses from clause i on, of m
+module _ (top : ℕ) (s : List ℕ) (m i at : ℕ) (table : List ℕ) where
+  pub left-broken : (variables : ℕ) → i < m → clause_at variables s at ≡ ClauseRead.Broken
+      → sets table (row_words * i) (clauses_words (m - i) top s at) ≡ table
   left-broken variables h e =
       let left : m - i ≡ suc (m - (i + 1)) = omega arith in
-      rw (left, rows-broken (m - (i + 1)) variables top s at e)
+      rw (left, words-broken (m - (i + 1)) variables top s at e)
 
-  pub left-added : (variables w : ℕ) (lits : Lits) (bad : Bool) (next : ℕ) (row : Row) → i < m → clause_at variables s at ≡ ClauseRead.Clause w lits bad next
+  pub left-stored : (variables w : ℕ) (lits : Lits) (bad : Bool) (next : ℕ) (row : Row) → i < m → clause_at variables s at ≡ ClauseRead.Clause w lits bad next
       → row ≡ clause_row top w lits
-      → add_rows (add_row made row) (clause_rows (m - (i + 1)) top s next) ≡ add_rows made (clause_rows (m - i) top s at)
-  unfolding add_rows
-  left-added variables w lits bad next row h e r =
+      → sets (sets table (row_words * i) (row_words_of row)) (row_words * (i + 1)) (clauses_words (m - (i + 1)) top s next)
+      ≡ sets table (row_words * i) (clauses_words (m - i) top s at)
+  left-stored variables w lits bad next row h e r =
       let left : m - i ≡ suc (m - (i + 1)) = omega arith in
-      rw (left, rows_next (m - (i + 1)) variables top s at w lits bad next e, ← r)
+      let behind : row_words * (i + 1) ≡ row_words * i + length (row_words_of row) = rw (row_words_lem row) (omega arith) in
+      rw (left, words-next (m - (i + 1)) variables top s at w lits bad next e, ← r, behind)
+      (sets-append table (row_words * i) (row_words_of row) (clauses_words (m - (i + 1)) top s next))
 
-  pub left-none : m ≤ i → add_rows made (clause_rows (m - i) top s at) ≡ made
-  unfolding clause_rows add_rows
-  left-none h = let none : m - i ≡ 0 = omega arith in rw none
+  pub left-none : m ≤ i → sets table (row_words * i) (clauses_words (m - i) top s at) ≡ table
+  left-none h = let none : m - i ≡ 0 = omega arith in rw (none, words-none top s at)
+
+pub words-length : (m top : ℕ) (s : List ℕ) (at : ℕ) → length (clauses_words m top s at) ≤ row_words * m
+unfolding clauses_words
+words-length zero top s at = omega arith
+words-length (suc m) top s at = weight (words-length m top s) (number_at s at)
+  where
+    signs : ((next : ℕ) → length (clauses_words m top s next) ≤ row_words * m) → (w : ℕ) (r : MembersRead)
+        → length (on_members r [] (λ ls next. row_words_of (clause_row top w (lits_of_members ls)) ++ clauses_words m top s next)) ≤ row_words * suc m
+    signs ih w (members ls next) =
+        let row = clause_row top w (lits_of_members ls) in
+        rw (length-append (row_words_of row) (clauses_words m top s next), row_words_lem row) (omega (arith, ih next))
+    signs ih w broken_line = omega arith
+
+    weight : ((next : ℕ) → length (clauses_words m top s next) ≤ row_words * m) → (p : Parsed)
+        → length (on_number p [] (λ w mid. on_members (members_from (length s) s mid) [] (λ ls next.
+        row_words_of (clause_row top w (lits_of_members ls)) ++ clauses_words m top s next))) ≤ row_words * suc m
+    weight ih (Parsed.Number w mid) = signs ih w (members_from (length s) s mid)
+    weight ih Parsed.Broken = omega arith

@@ -1,9 +1,9 @@
 // The clauses of a text: judged line by line, then read once more and stored.
-ghost use Rattle.std.specs.Prelude.{◌≡◌, [], ◌+◌, ◌*◌, ◌^◌, ◌<◌, ◌≤◌, eqb, length, drop};
+ghost use Rattle.std.specs.Prelude.{◌≡◌, ◌+◌, ◌*◌, ◌≤◌, eqb, length};
+ghost use Rattle.std.proofs.lemmas.List.Edits.{sets};
 ghost use Rattle.rules.specs.declared.WcnfHead.{WcnfHead};
 ghost use Rattle.rules.specs.Table.{row_words, most_rows};
-ghost use Rattle.rules.specs.WcnfReader.{clauses_why, header_why, clause_row, clause_rows, add_row, add_rows};
-ghost use Rattle.wcnf_reader.specs.Made.{first_rows, weights_of, in_front};
+ghost use Rattle.rules.specs.WcnfReader.{clauses_why, header_why, clause_row, clauses_words};
 
 use literals::{Literal, Lits};
 use rules::{Judged, Refusal, Row};
@@ -84,34 +84,14 @@ fn clause_row(top: u64, weight: u64, lits: Lits) -> Row
     Row::new(lits, weight)
 }
 
-// One more row after those made so far, of which the first that is the same clause gets its weight; how many are made now.
-fn add_row(table: &mut [u64], made: usize, row: Row) -> usize
-    requires { (row_words * (made + 1) ≤ length table.old) × (weights_of (first_rows made table.old) + row.weight < 2 ^ 64) }
-    ensures rows { first_rows result table.new ≡ add_row (first_rows made table.old) row }
-    ensures rest { drop (row_words * result) table.new ≡ drop (row_words * result) table.old }
-{
-    let place = words::inner::first_same(table, made, row);
-    if place < made {
-        let first = words::inner::row_in(table, Row::WORDS * place);
-        let weight = first.weight + row.weight;
-        let merged = values::with_weight(first, weight);
-        words::inner::set_row_in(table, Row::WORDS * place, merged);
-        return made;
-    }
-    words::inner::set_row_in(table, Row::WORDS * made, row);
-    made + 1
-}
-
-// The clauses once more, now stored, of which the first that breaks the form would end them; how many rows they make.
-pub fn store_rows(s: &[u8], from: usize, clauses: usize, top: u64, table: &mut [u64]) -> usize
-    requires { (clauses ≤ most_rows) × (row_words * clauses ≤ length table.old) }
-    ensures count { result ≡ length (add_rows [] (clause_rows clauses top s.now from)) }
-    ensures words { table.new ≡ in_front (add_rows [] (clause_rows clauses top s.now from)) table.old }
+// The clauses once more, now stored, of which the first that breaks the form would end them.
+pub fn store_rows(s: &[u8], from: usize, rows: usize, top: u64, table: &mut [u64])
+    requires { row_words * rows ≤ length table.old }
+    ensures { table.new ≡ sets table.old 0 (clauses_words rows top s.now from) }
 {
     let mut at = from;
-    let mut made = 0;
     let mut i = 0;
-    while i < clauses {
+    while i < rows {
         let ClauseRead::Clause {
             weight,
             lits,
@@ -119,12 +99,11 @@ pub fn store_rows(s: &[u8], from: usize, clauses: usize, top: u64, table: &mut [
             next,
         } = wcnf_pieces::clause_at(s, at, Literal::MOST)
         else {
-            return made;
+            return;
         };
         let row = clause_row(top, weight, lits);
-        made = add_row(table, made, row);
+        words::inner::set_row_in(table, Row::WORDS * i, row);
         at = next;
         i += 1;
     }
-    made
 }

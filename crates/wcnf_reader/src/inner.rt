@@ -25,8 +25,11 @@ fn read_rest(
     match clauses::figures_why(most, s, table.len(), variables, clauses, from, line) {
         Judged::Refused(why) => WcnfRead::Refused(why),
         Judged::Fine => {
-            let rows = clauses::store_rows(s, from, clauses as usize, top, table) as u64;
-            WcnfRead::Table { variables, rows }
+            clauses::store_rows(s, from, clauses as usize, top, table);
+            WcnfRead::Table {
+                variables,
+                rows: clauses,
+            }
         }
     }
 }

@@ -8,11 +8,10 @@ ghost use Rattle.rules.specs.Decide.{entered};
 ghost use Rattle.rules.specs.TakeBack.{last_place, last_named, withdrawn};
 ghost use Rattle.rules.specs.Steps.{most_named};
 ghost use Rattle.words.specs.Room.{EntryLeft, StepStands};
-ghost use Rattle.words.specs.FirstSame.{FirstSame};
 
 use literals::Lits;
 use rules::{Desk, Entry, Row};
-use values::{same_clause, with_weight};
+use values::with_weight;
 
 // The row whose words begin at a place.
 pub fn row_in(words: &[u64], at: usize) -> Row
@@ -35,21 +34,6 @@ pub fn set_row_in(words: &mut [u64], at: usize, row: Row)
     words[at + 1] = row.lits.negative;
     words[at + 2] = row.weight;
     words[at + 3] = row.mark;
-}
-
-// The first of the first n rows of a table that is the same clause as this row; n where there is none.
-pub fn first_same(table: &[u64], n: usize, row: Row) -> usize
-    requires { row_words * n ≤ length table.now }
-    ensures { FirstSame table.now n row result }
-{
-    let mut i = 0;
-    while i < n {
-        if same_clause(row_in(table, Row::WORDS * i), row) {
-            return i;
-        }
-        i += 1;
-    }
-    n
 }
 
 // Row i of a desk.

@@ -1,11 +1,11 @@
 -- `rows_why` meets its contract: the rows passed were fine, and the first that is not answers for all.
 use Prim.Native.Nat.{ℕ, ◌+◌, ◌≤◌, ◌-◌}
-use mathlib.Core.Path.{◌≡◌, sym, ◌∙◌, subst}
+use mathlib.Core.Path.{◌≡◌, sym, ◌∙◌, ap, subst}
 use native.Mathlib.Omega.{arith}
 use borrow.Author.Rules.{rules}
 use Rattle.rules.specs.declared.Judged.TheVariants.{Fine}
-use Rattle.rules.specs.Table.{rows_why}
-use Rattle.tables.proofs.Rows.{rows_none, rows-refused, next-refused, next-same, next-other}
+use Rattle.rules.specs.Table.{row_of, row_why, rows_why}
+use Rattle.tables.proofs.Rows.{rows_none, rows_next, rows-refused}
 use Rattle.tables.proofs.judge.rows_why.Statement.{statement}
 use Rattle.tables.proofs.judge.rows_why.Tie as tie
 
@@ -33,26 +33,22 @@ enum_told c = search rules
 enum-told-2 : tie.Need-enum-told-2 invariant-loop decreases-loop
 enum-told-2 c = search rules
 
+-- what the rows up to this one come to
+gave : (c : tie.After-row-why invariant-loop decreases-loop)
+    → c.row-why.result ≡ rows_why c.before.before.before.before.before.args.variables
+    c.before.before.before.before.before.args.table.now (c.before.before.before.loop.i + 1)
+unfolding row_of
+gave c =
+    let a = c.before.before.before.before.before.args in
+    let l = c.before.before.before.loop in
+    c.row-why.ensures ∙ ap (row_why a.variables l.i) c.before.row-in.ensures ∙ sym (rows_next a.variables a.table.now l.i l.invariant.1)
+
 returns : tie.Need-returns invariant-loop decreases-loop
 returns c =
     let a = c.before.before.before.before.before.before.before.args in
     let l = c.before.before.before.before.before.loop in
-    let read = c.before.before.before.row-in.ensures in
     let e = c.enum-told2.given.1 in
-    let next = next-refused a.variables a.table.now l.i read l.invariant.1 _ (sym c.before.before.row-why.ensures ∙ e) in
-    e ∙ sym (rows-refused a.variables a.table.now _ (l.i + 1) a.n (omega arith) next)
-
-first-same-requires : tie.Need-first-same-requires invariant-loop decreases-loop
-first-same-requires c κs = omega arith
-
-returns-2 : tie.Need-returns-2 invariant-loop decreases-loop
-returns-2 c =
-    let a = c.before.before.before.before.before.before.before.before.before.args in
-    let l = c.before.before.before.before.before.before.before.loop in
-    let read = c.before.before.before.before.before.row-in.ensures in
-    let fine = sym c.before.before.before.before.row-why.ensures ∙ c.before.before.enum_told.given.1 in
-    let next = next-same a.variables a.table.now l.i read l.invariant.1 fine c.before.first-same.ensures c.if1.true in
-    sym (rows-refused a.variables a.table.now _ (l.i + 1) a.n (omega arith) next)
+    e ∙ sym (rows-refused a.variables a.table.now _ (l.i + 1) a.n (omega arith) (sym (gave c.before.before) ∙ e))
 
 add-i : tie.Need-overflow-add-i invariant-loop decreases-loop
 add-i c = omega arith
@@ -61,15 +57,10 @@ loop-less : tie.Need-loop-smaller invariant-loop decreases-loop
 loop-less c = omega arith
 
 loop-again : tie.Need-loop-preserved invariant-loop decreases-loop
-loop-again c =
-    let a = c.before.before.before.before.before.before.before.before.before.args in
-    let l = c.before.before.before.before.before.before.before.loop in
-    let read = c.before.before.before.before.before.row-in.ensures in
-    let fine = sym c.before.before.before.before.row-why.ensures ∙ c.before.before.enum_told.given.1 in
-    (omega arith, next-other a.variables a.table.now l.i read l.invariant.1 fine c.before.first-same.ensures c.if1.false)
+loop-again c = (omega arith, sym (gave c.before.before) ∙ c.enum_told.given.1)
 
-returns-3 : tie.Need-returns-3 invariant-loop decreases-loop
-returns-3 c =
+returns-2 : tie.Need-returns-2 invariant-loop decreases-loop
+returns-2 c =
     let a = c.before.before.before.args in
     let l = c.before.loop in
     let e : l.i ≡ a.n = omega arith in
@@ -88,9 +79,7 @@ rows-why-spec =
     enum_told
     enum-told-2
     returns
-    first-same-requires
-    returns-2
     add-i
     loop-less
     loop-again
-    returns-3)
+    returns-2)

@@ -59,9 +59,6 @@ enum-told-15 c = search rules
 enum-known-why-3 : tie.Need-enum-known-why-3
 enum-known-why-3 c = search rules
 
-enum-known-why-4 : tie.Need-enum-known-why-4
-enum-known-why-4 c = search rules
-
 returns : tie.Need-returns
 returns c = sym (ap numbered c.enum_told.given.1)
 
@@ -116,9 +113,6 @@ returns-17 c = sym (ap numbered c.enum-told15.given.1)
 returns-18 : tie.Need-returns-18
 returns-18 c = sym (ap numbered c.before.why3.given.1)
 
-returns-19 : tie.Need-returns-19
-returns-19 c = sym (ap numbered c.before.why4.given.1)
-
 pub numbered-spec : {M : Type 1} → statement M
 numbered-spec =
     tie.close
@@ -141,7 +135,6 @@ numbered-spec =
     enum-told-14
     enum-told-15
     enum-known-why-3
-    enum-known-why-4
     returns
     returns-2
     returns-3
@@ -159,5 +152,4 @@ numbered-spec =
     returns-15
     returns-16
     returns-17
-    returns-18
-    returns-19)
+    returns-18)

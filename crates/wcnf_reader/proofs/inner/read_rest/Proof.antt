@@ -1,4 +1,5 @@
 -- `read_rest` meets its contract: refused by what follows the header, or fine and stored.
+use mathlib.Core.Path.{◌∙◌}
 use borrow.Author.Rules.{rules}
 use Rattle.wcnf_reader.proofs.Rest.{behind-refused, behind-fine, behind-room}
 use Rattle.wcnf_reader.proofs.inner.read_rest.Statement.{statement}
@@ -16,10 +17,9 @@ enum_told c = search rules
 store-rows-requires : tie.Need-store-rows-requires
 store-rows-requires c κs =
     let judged = c.before in
-    let start = judged.before.before.before.before.before in
-    let a = start.args in
+    let a = judged.before.before.before.before.before.args in
     behind-room a.most a.s.now a.table.now a.variables a.clauses a.top a.from a.line _
-    judged.before.before.figures-why.ensures start.requires.0 judged.enum_told.given.1
+    judged.before.before.figures-why.ensures judged.enum_told.given.1
 
 returns : tie.Need-returns
 returns c =
@@ -36,9 +36,8 @@ returns-2 c =
     let judged = c.before.before.before.before in
     let a = judged.before.before.before.before.before.args in
     let why = judged.before.before.figures-why.ensures in
-    let stored = c.before.before.store-rows.ensures in
-    behind-fine a.most a.s.now a.table.now a.variables a.clauses a.top a.from a.line _ why _ _ judged.enum_told.given.1
-    stored.0 stored.1
+    let fine = behind-fine a.most a.s.now a.table.now a.variables a.clauses a.top a.from a.line _ why judged.enum_told.given.1 in
+    (fine.0, c.before.before.store-rows.ensures ∙ fine.1)
 
 pub read-rest-spec : {M : Type 1} → statement M
 read-rest-spec =
