@@ -1,5 +1,7 @@
 // The program's answer: a text in, a text out, both in lent bytes. What is read and what is written stand in document 01's words in
 // the rules; this room only puts reader, desk, search and lines one behind the other.
+#![tactic(auto)]
+
 ghost use Rattle.std.specs.Prelude.{◌≡◌};
 ghost use Rattle.rules.specs.Program.{answered, answer_out};
 

@@ -1,2 +1,4 @@
 // The lines of an answer, written of the text's own pieces: a refusal's three, or a search's seven.
+#![tactic(auto)]
+
 pub mod inner;

@@ -1,4 +1,6 @@
 // The bound of a desk: lost, and what is foreseen, by the units of each undecided variable or by groups.
+#![tactic(auto)]
+
 ghost use Rattle.std.specs.Prelude.{◌≡◌};
 ghost use Rattle.rules.specs.Choice.{losses_by, bounded};
 ghost use Rattle.desk_laws.specs.Readable.{Readable};

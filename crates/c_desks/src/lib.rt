@@ -1,5 +1,7 @@
 // For software in C: the weight of a reading, load, and whether a desk is well formed. Each call is the one of its own room, with the same
 // refusals. What is lent, what comes back and how a refusal is told stands in `olikumpasho.h`, function by function.
+#![tactic(auto)]
+
 ghost use Rattle.std.specs.Prelude.{◌≡◌};
 ghost use Rattle.rules.specs.Table.{weighed};
 ghost use Rattle.rules.specs.Desk.{load_why, load_desk, well_formed};

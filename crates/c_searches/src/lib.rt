@@ -1,4 +1,6 @@
 // For software in C: the bound and the search, as `olikumpasho.h` has them. The desk is only read.
+#![tactic(auto)]
+
 ghost use Rattle.std.specs.Prelude.{◌≡◌};
 ghost use Rattle.rules.specs.Choice.{choice_of, bounded};
 ghost use Rattle.rules.specs.Walk.{searched};

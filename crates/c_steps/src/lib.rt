@@ -1,4 +1,6 @@
 // For software in C: the steps on a desk, as `olikumpasho.h` has them.
+#![tactic(auto)]
+
 ghost use Rattle.std.specs.Prelude.{◌≡◌};
 ghost use Rattle.rules.specs.Decide.{decide_why, decide_desk};
 ghost use Rattle.rules.specs.Rewrite.{rewrite_why, rewrite_desk};

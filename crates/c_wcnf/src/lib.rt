@@ -1,4 +1,6 @@
 // For software in C: reader and writer of competition files, as `olikumpasho.h` has them.
+#![tactic(auto)]
+
 ghost use Rattle.std.specs.Prelude.{◌≡◌, length};
 ghost use Rattle.rules.specs.Table.{most_rows};
 ghost use Rattle.rules.specs.Wcnf.{wcnf_written, wcnf_out};

@@ -1,5 +1,7 @@
 // A text on standard input, read into a table and written out from it on standard output; nothing where either is refused. This runs
 // reader and writer on texts that are too long for the solver.
+#![tactic(auto)]
+
 ghost use Rattle.std.specs.Prelude.{◌≡◌};
 ghost use Rattle.copy.specs.Copied.{length_of, copy_length, copy_out};
 

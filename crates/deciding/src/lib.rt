@@ -1,4 +1,6 @@
 // Deciding a literal: judged whole, then written.
+#![tactic(auto)]
+
 ghost use Rattle.std.specs.Prelude.{◌≡◌, true};
 ghost use Rattle.literals.specs.Literal.{is_literal};
 ghost use Rattle.rules.specs.Decide.{decide_why, decide_desk};

@@ -1,4 +1,6 @@
 // A table loaded onto a desk in lent words.
+#![tactic(auto)]
+
 pub mod inner;
 mod lay;
 

@@ -1,4 +1,6 @@
 // Whether a rewriting fits: its kind, the rows it names, their remnants, and the room that it needs. It is judged in the order 10, 11, 13, 14, 15.
+#![tactic(auto)]
+
 ghost use Rattle.std.specs.Prelude.{◌≡◌, ◌+◌, ◌≤◌, length};
 ghost use Rattle.rules.specs.Rewrite.{fits, chains, forks, well_fitted, rewrite_why};
 ghost use Rattle.rules.specs.Steps.{well_named, remnant_of};

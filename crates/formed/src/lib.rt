@@ -1,4 +1,6 @@
 // A desk in lent words is well formed, (a) to (e).
+#![tactic(auto)]
+
 ghost use Rattle.std.specs.Prelude.{◌≡◌, not, ◌||◌, ◌+◌, ◌*◌, ◌≤◌, length};
 ghost use Rattle.masks.specs.Sums.{every};
 ghost use Rattle.rules.specs.Table.{row_words, bad_lits, bad_mark};

@@ -1,4 +1,6 @@
 // Gaps of spaces, numbers behind them, and the end of a line that is passed over.
+#![tactic(auto)]
+
 ghost use Rattle.std.specs.Prelude.{◌≡◌, ◌-◌, length};
 ghost use Rattle.rules.specs.WcnfReader.{space_run, parted_at, feed_from};
 

@@ -1,4 +1,6 @@
 // The constant table by step kind, 0 to 4. Above 4 there is no kind, and each figure is 0.
+#![tactic(auto)]
+
 ghost use Rattle.std.specs.Prelude.{◌≡◌, get_or};
 ghost use Rattle.rules.specs.Steps.{fewer_added, concedes, count_fits};
 

@@ -1,2 +1,4 @@
 // The new rows of a rewriting that fits, and its entry.
+#![tactic(auto)]
+
 pub mod inner;

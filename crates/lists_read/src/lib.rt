@@ -1,4 +1,6 @@
 // The literals to the end of a line: parted by one space, variables strictly rising.
+#![tactic(auto)]
+
 ghost use Rattle.std.specs.Prelude.{◌≡◌, true, suc};
 ghost use Rattle.literals.specs.Literal.{most_variables};
 ghost use Rattle.literals.specs.Lits.{no_lits};
@@ -10,7 +12,7 @@ use pieces_read::{byte_at, number_at};
 use rules::{Listed, Parsed};
 
 // A literal of a text and the place behind it.
-#[derive(Drop)]
+#[derive(Clone, Copy)]
 pub enum LiteralRead {
     Literal { literal: Literal, next: usize },
     Broken,

@@ -1,23 +1,25 @@
 // A literal as a kind of value, and a set of literals as two masks. No method asks anything of its value: a number that
 // is no literal can be held, and each definition says what becomes of it.
+#![tactic(auto)]
+
 ghost use Rattle.std.specs.Prelude.{◌≡◌};
 ghost use Rattle.literals.specs.Literal.{size, is_positive, is_literal, opposite, bit_of, lits_of, offered};
 ghost use Rattle.literals.specs.Lits.{no_lits, negated_lits, together, less, variables_of, is_empty, same_lits, is_one};
 
-#[derive(Drop)]
+#[derive(Clone, Copy)]
 pub struct Literal {
     pub value: i64,
 }
 
 // What becomes of a number that is to be a literal.
-#[derive(Drop)]
+#[derive(Clone, Copy)]
 pub enum Offered {
     Fine(Literal),
     Refused,
 }
 
 // A set of literals. Bit v - 1 of a mask stands for variable v.
-#[derive(Drop)]
+#[derive(Clone, Copy)]
 pub struct Lits {
     pub positive: u64,
     pub negative: u64,

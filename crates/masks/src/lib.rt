@@ -1,4 +1,6 @@
 // Masks of 64 bits: the single bits that the language has no name for.
+#![tactic(auto)]
+
 ghost use Rattle.std.specs.Prelude.{◌≡◌};
 ghost use Rattle.std.specs.Int.Count.{count_trailing_zeros};
 ghost use Rattle.masks.specs.Masks.{without, single, has, below, count};

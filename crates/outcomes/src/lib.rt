@@ -1,4 +1,6 @@
 // What the program's input comes to, whatever the form of its text: its rows, loaded where they stand, bounded and searched, or the refusal.
+#![tactic(auto)]
+
 use rules::{Desk, Row, TextRead};
 
 pub mod inner;

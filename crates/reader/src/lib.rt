@@ -1,5 +1,7 @@
 // The reader of document 01's text, over lent bytes and words: the first three lines, then the rows, judged whole before the first word
 // is stored.
+#![tactic(auto)]
+
 ghost use Rattle.std.specs.Prelude.{◌≡◌, length};
 ghost use Rattle.rules.specs.Table.{most_rows};
 ghost use Rattle.rules.specs.Reader.{text_read, read_table};
@@ -11,7 +13,7 @@ pub mod inner;
 mod rows;
 
 // Where rows end, or the first of their lines that breaks the form.
-#[derive(Drop)]
+#[derive(Clone, Copy)]
 pub enum RowsEnd {
     Behind(usize),
     Broken(u64),

@@ -1,4 +1,6 @@
 // The rewritings: merge, shift, chain and fork. A rewriting is judged whole, then written.
+#![tactic(auto)]
+
 ghost use Rattle.std.specs.Prelude.{◌≡◌};
 ghost use Rattle.rules.specs.Rewrite.{rewrite_why, rewrite_desk};
 

@@ -1,5 +1,7 @@
 // The program's answer to standard input, on standard output. It is written as soon as it is certain; then what is left of the input is
 // read to its end. No contract can say what is read or written, so all that can be stated is stated of `reply`.
+#![tactic(auto)]
+
 ghost use Rattle.std.specs.Prelude.{◌≤◌, length};
 ghost use Rattle.rules.specs.Program.{answer};
 ghost use Rattle.answer_lines.specs.Lengths.{most_answer};

@@ -1,1 +1,3 @@
 // No code: laws of the steps on a desk, over the definitions of `rules` alone.
+#![tactic(auto)]
+

@@ -1,4 +1,6 @@
 // What every program does with its input and its output: one byte more than is read is kept, and what is left is read to its end.
+#![tactic(auto)]
+
 ghost use Rattle.std.specs.Prelude.{◌+◌, ◌≡◌, length};
 ghost use Rattle.rules.specs.Program.{most_input};
 

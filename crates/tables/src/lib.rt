@@ -1,4 +1,6 @@
 // A table in lent words: whether it is admissible, and the weight of a reading.
+#![tactic(auto)]
+
 pub mod inner;
 mod judge;
 mod weigh;

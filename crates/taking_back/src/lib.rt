@@ -1,4 +1,6 @@
 // Taking back the last standing step: judged whole, then undone.
+#![tactic(auto)]
+
 ghost use Rattle.std.specs.Prelude.{◌≡◌};
 ghost use Rattle.rules.specs.TakeBack.{take_back_why, take_back_desk};
 

@@ -1,4 +1,6 @@
 // How a caller in C is told what a call came to: a judgement as one number, what a search found as five words, what a reading weighs as two.
+#![tactic(auto)]
+
 ghost use Rattle.std.specs.Prelude.{◌≡◌, [], ◌∷◌};
 ghost use Rattle.telling.specs.Told.{told_near, status_word, found_words, hold_word};
 

@@ -1,4 +1,6 @@
 // The small questions that are asked of the kinds of value. Nothing here asks anything of its caller.
+#![tactic(auto)]
+
 mod parts;
 mod refusals;
 mod rows;

@@ -1,4 +1,6 @@
 // The search: a walk over the undecided variables, true before false, that keeps the best reading met within a budget of nodes.
+#![tactic(auto)]
+
 ghost use Rattle.std.specs.Prelude.{◌≡◌};
 ghost use Rattle.rules.specs.Walk.{walk_in, found_by, searched};
 ghost use Rattle.desk_laws.specs.Readable.{Readable};

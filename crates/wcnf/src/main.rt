@@ -1,5 +1,7 @@
 // The answer to a competition file on standard input, on standard output. It is written as soon as it is certain; then what is left of the
 // input is read to its end. No contract can say what is read or written, so all that can be stated is stated of `reply`.
+#![tactic(auto)]
+
 ghost use Rattle.std.specs.Prelude.{◌≤◌, length};
 ghost use Rattle.rules.specs.WcnfProgram.{wcnf_answer};
 ghost use Rattle.wcnf_lines.specs.Lengths.{most_answer};

@@ -1,5 +1,7 @@
 // The answer to a competition file, both in lent bytes. What is read and what is written stand in the rules; this room only puts reader, desk,
 // search and lines one behind the other.
+#![tactic(auto)]
+
 ghost use Rattle.std.specs.Prelude.{◌≡◌};
 ghost use Rattle.rules.specs.WcnfProgram.{wcnf_answered, wcnf_answer_out};
 

@@ -1,4 +1,6 @@
 // The header of a competition file: comment lines first, then `p wcnf` with three figures.
+#![tactic(auto)]
+
 ghost use Rattle.std.specs.Prelude.{◌≡◌};
 ghost use Rattle.rules.specs.WcnfReader.{header_at, header_of};
 ghost use Rattle.wcnf_headers.specs.Headers.{figures_at};

@@ -1,2 +1,4 @@
 // The lines of the answer to a competition file: a refusal's two, or a search's, of which those of a reading stand only where there is one.
+#![tactic(auto)]
+
 pub mod inner;

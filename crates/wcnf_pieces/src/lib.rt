@@ -1,5 +1,7 @@
 // A clause of a competition file up to its closing 0: its weight and its literals as a set.
 // What is read is judged elsewhere; here a clause says only whether its literals are bad. Whether it is hard, top says, which is not known here.
+#![tactic(auto)]
+
 use literals::Lits;
 
 mod clauses;
@@ -7,7 +9,7 @@ mod clauses;
 pub use clauses::clause_at;
 
 // A signed number of a text, which need be no literal, by its size and sign, and the place behind it.
-#[derive(Drop)]
+#[derive(Clone, Copy)]
 pub enum SignedRead {
     Signed {
         size: u64,
@@ -18,7 +20,7 @@ pub enum SignedRead {
 }
 
 // The literals of a clause as a set, whether one is above the count, and the place behind the clause's line.
-#[derive(Drop)]
+#[derive(Clone, Copy)]
 pub enum Gathered {
     Members {
         lits: Lits,
@@ -29,7 +31,7 @@ pub enum Gathered {
 }
 
 // A clause by its weight and its literals, whether these are bad, and the place behind its line.
-#[derive(Drop)]
+#[derive(Clone, Copy)]
 pub enum ClauseRead {
     Clause {
         weight: u64,

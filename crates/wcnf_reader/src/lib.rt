@@ -1,4 +1,6 @@
 // The reader of competition files, over lent bytes and words: the header, then the clauses, judged whole before the first word is stored.
+#![tactic(auto)]
+
 ghost use Rattle.std.specs.Prelude.{◌≡◌, length};
 ghost use Rattle.rules.specs.Table.{most_rows};
 ghost use Rattle.rules.specs.WcnfReader.{wcnf_read, wcnf_table};

@@ -1,4 +1,6 @@
 // The writer of competition files, over lent words and bytes: the table judged as any table is, then the room, then the bytes.
+#![tactic(auto)]
+
 ghost use Rattle.std.specs.Prelude.{◌≡◌, ◌≤◌};
 ghost use Rattle.masks.specs.Sums.{sum};
 ghost use Rattle.rules.specs.Table.{row_count, row_of, most_rows, most_weight};

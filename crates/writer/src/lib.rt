@@ -1,4 +1,6 @@
 // The writer of document 01's text, over lent words and bytes: the table judged as any table is, then the room, then the bytes.
+#![tactic(auto)]
+
 ghost use Rattle.std.specs.Prelude.{◌≡◌, ◌≤◌};
 ghost use Rattle.rules.specs.Table.{row_count, most_rows};
 ghost use Rattle.rules.specs.Text.{table_text, written, write_out};

@@ -1,0 +1,9 @@
+-- `put_weight` meets its contract: `none`, or the number.
+use Rattle.answer_lines.proofs.Written.{weight-none, weight-some}
+use Rattle.answer_lines.proofs.inner.put_weight.Goals as goal
+
+pub returns-in-Nothing : goal.returns-in-Nothing
+returns-in-Nothing c = rw (weight-none _ c.enum_told.given.1) c.put_key.ensures
+
+pub returns-in-Reading : goal.returns-in-Reading
+returns-in-Reading c = rw (weight-some _ _ _ c.best.given.1) c.put_number_line.ensures

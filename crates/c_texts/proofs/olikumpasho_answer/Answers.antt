@@ -1,0 +1,18 @@
+-- What it is told, and what is written where it was accepted, is what the call says.
+use mathlib.Core.Path.{sym, ap, ◌∙◌}
+use Rattle.telling.proofs.Places.{as-small, answered-small}
+use Rattle.telling.specs.Told.{told, by_written, length_out}
+use Rattle.c_texts.proofs.olikumpasho_answer.Goals as goal
+
+pub tell-requires : goal.tell-requires
+tell-requires c = as-small (sym (ap by_written (sym c.answer.ensures.answer ∙ c.in-Refused.is))) (answered-small _ _)
+
+pub returns-in-Refused : goal.returns-in-Refused
+returns-in-Refused c =
+    let e = sym c.answer.ensures.answer ∙ c.in-Refused.is in
+    (c.tell.ensures ∙ sym (ap (λ x. told (by_written x)) e), (c.answer.ensures.bytes, sym (ap (λ x. length_out x c.args.bytes.now) e)))
+
+pub returns-in-Bytes : goal.returns-in-Bytes
+returns-in-Bytes c =
+    let e = sym c.answer.ensures.answer ∙ c.in-Bytes.is in
+    (sym (ap (λ x. told (by_written x)) e), (c.answer.ensures.bytes, sym (ap (λ x. length_out x c.args.bytes.now) e)))

@@ -1,0 +1,35 @@
+-- `rows_added` meets its contract: the sum with the first new row, which may be any word, is never made.
+use Prim.Native.Nat.{◌+◌}
+use mathlib.Core.Path.{◌≡◌}
+use mathlib.Core.Logic.{⊎_elim}
+use mathlib.Core.Bool.{false}
+use native.Mathlib.Omega.{arith}
+use lib.Dec.{eqb}
+use borrow.Author.Tests.{ne_eqb}
+use Rattle.rules.specs.Steps.{fewer_added}
+use Rattle.rules.specs.Desk.{in_use}
+use Rattle.last_entry.specs.Last.{added_well}
+use Rattle.last_entry.proofs.Lasts.{whole, added-up, fewer-few}
+use Rattle.last_entry.proofs.inner.rows_added.Goals as goal
+
+pub overflow_add-total : goal.overflow_add-total
+overflow_add-total c =
+    let f = whole _ c.requires in
+    omega (arith, c.word-in_use.ensures, c.fewer_added.ensures, fewer-few c.args.kind, f.fitting, f.roomy)
+
+pub returns-then-total-n : goal.returns-then-total-n
+unfolding added_well
+returns-then-total-n c =
+    let t : c.word-in_use.result + c.fewer_added.result ≡ in_use c.args.desk.now + fewer_added c.args.kind =
+    rw (c.word-in_use.ensures, c.fewer_added.ensures) in
+    rw (added-up (in_use c.args.desk.now + fewer_added c.args.kind) c.args.n c.args.first (omega (arith, t)) (omega (arith, t, c.if-total-n.true)))
+
+pub returns : goal.returns
+unfolding added_well
+returns c =
+    let t : c.word-in_use.result + c.fewer_added.result ≡ in_use c.args.desk.now + fewer_added c.args.kind =
+    rw (c.word-in_use.ensures, c.fewer_added.ensures) in
+    let no : eqb (in_use c.args.desk.now + fewer_added c.args.kind) (c.args.first + c.args.n) ≡ false =
+    ne_eqb (in_use c.args.desk.now + fewer_added c.args.kind) (c.args.first + c.args.n)
+    (λ e. ⊎_elim (λ w. w.1.left (omega (arith, t, e))) (λ w. omega (arith, t, e, w.left)) c.if-n-total.branch) in
+    rw (no, c.word-in_use.ensures)

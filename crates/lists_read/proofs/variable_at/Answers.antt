@@ -1,0 +1,44 @@
+-- `variable_at` meets its contract: no number, a number that is no variable, one that is not above the last, or a literal.
+use mathlib.Core.Path.{sym, ap, ◌∙◌}
+use native.Mathlib.Omega.{arith}
+use lib.IntN.{pos}
+use mir.Syntax.{w64}
+use mir.Val.{SFits}
+use Rattle.literals.specs.Literal.{offered}
+use Rattle.literals.proofs.Signed.{back}
+use Rattle.text_laws.proofs.Matched.{matched}
+use Rattle.text_laws.proofs.Numbers.{number-found}
+use Rattle.text_laws.proofs.Branches.{literal-broken}
+use Rattle.lists_read.specs.Literals.{literal_read}
+use Rattle.lists_read.proofs.Signs.{no-literal, not-above, above}
+use Rattle.lists_read.proofs.variable_at.Goals as goal
+
+pub returns-in_default : goal.returns-in_default
+returns-in_default c = sym (ap literal_read (literal-broken _ c.args.last _ (matched c.number_at.ensures c.in_default.is)))
+
+pub overflow_cast-value : goal.overflow_cast-value
+overflow_cast-value c =
+    let small : SFits w64 (pos c.in-Number.value) = let number = matched c.number_at.ensures c.in-Number.is in
+    record { sfits = omega (arith, (number-found _ _ _ _ number).small) } in
+    small
+
+pub returns-in_default-new : goal.returns-in_default-new
+returns-in_default-new c =
+    let small : SFits w64 (pos c.in-Number.value) = let number = matched c.number_at.ensures c.in-Number.is in
+    record { sfits = omega (arith, (number-found _ _ _ _ number).small) } in
+    let number = matched c.number_at.ensures c.in-Number.is in
+    let refused = matched (c.new.ensures ∙ ap offered (back _ small)) c.in_default-new.is in
+    no-literal c.args.last _ _ _ number refused
+
+pub returns-then-last-value : goal.returns-then-last-value
+returns-then-last-value c =
+    let small : SFits w64 (pos c.in-Number.value) = let number = matched c.number_at.ensures c.in-Number.is in
+    record { sfits = omega (arith, (number-found _ _ _ _ number).small) } in
+    let number = matched c.number_at.ensures c.in-Number.is in
+    let fine = matched (c.new.ensures ∙ ap offered (back _ small)) c.in-Fine.is in
+    above c.args.last _ _ _ number _ fine c.if-last-value.true
+
+pub returns-else-last-value : goal.returns-else-last-value
+returns-else-last-value c =
+    let number = matched c.number_at.ensures c.in-Number.is in
+    not-above c.args.last _ _ _ number c.if-last-value.false

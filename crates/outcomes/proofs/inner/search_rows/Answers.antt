@@ -1,0 +1,24 @@
+-- `search_rows` meets its contract: rows are refused as any table, and what is loaded can be read.
+use native.Mathlib.Omega.{arith}
+use Rattle.outcomes.proofs.Searching.{not-loaded, loaded}
+use Rattle.outcomes.proofs.inner.search_rows.Goals as goal
+
+pub losses_at-root-requires : goal.losses_at-root-requires
+losses_at-root-requires c = readable
+
+pub found_on-found-requires : goal.found_on-found-requires
+found_on-found-requires c =
+    record {
+      readable = readable;
+      desk_in_bounds = omega arith;
+    }
+
+pub returns-in-Refused : goal.returns-in-Refused
+returns-in-Refused c = not-loaded c.args.variables c.args.budget c.args.rows c.args.words.now c.requires _ _ c.load_front.ensures.value c.in-Refused.is
+
+pub returns-in-Fine : goal.returns-in-Fine
+returns-in-Fine c =
+    let s = c.before.before.before in
+    let a = s.args in
+    loaded a.variables a.budget a.rows a.words.now s.requires _ _ c.load-front.ensures.0 c.enum_told.given.1 c.load-front.ensures.1 _ _ _
+    c.decisions.ensures c.losses-at.ensures c.found_on-found.ensures

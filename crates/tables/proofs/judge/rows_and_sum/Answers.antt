@@ -1,0 +1,22 @@
+-- `rows_and_sum` meets its contract: each return has what led there.
+use mathlib.Core.Path.{sym, ◌∙◌}
+use Rattle.rules.specs.Table.{row_count}
+use Rattle.tables.specs.Judge.{rows_and_sum_why}
+use Rattle.tables.proofs.Rows.{sum-from-first}
+use Rattle.tables.proofs.judge.rows_and_sum.Goals as goal
+
+pub returns-in_default : goal.returns-in_default
+unfolding rows_and_sum_why row_count
+returns-in_default c = rw (← c.rows_why-why.ensures, c.in_default.is)
+
+pub returns-then-sum_over : goal.returns-then-sum_over
+unfolding rows_and_sum_why row_count
+returns-then-sum_over c =
+    let over = sym (sum-from-first c.args.table.now) ∙ sym c.Sum-over.ensures ∙ c.if-sum_over.true in
+    rw (← c.rows_why-why.ensures, c.in-Fine.is, over)
+
+pub returns : goal.returns
+unfolding rows_and_sum_why row_count
+returns c =
+    let over = sym (sum-from-first c.args.table.now) ∙ sym c.Sum-over.ensures ∙ c.if-sum_over.false in
+    rw (← c.rows_why-why.ensures, c.in-Fine.is, over)

@@ -1,0 +1,22 @@
+-- `read_rest` meets its contract: refused by what follows the header, or fine and stored.
+use mathlib.Core.Path.{◌∙◌}
+use Rattle.wcnf_reader.proofs.Rest.{behind-refused, behind-fine, behind-room}
+use Rattle.wcnf_reader.proofs.inner.read_rest.Goals as goal
+
+pub store_rows-requires : goal.store_rows-requires
+store_rows-requires c =
+    behind-room c.args.most c.args.s.now c.args.table.now c.args.variables c.args.clauses c.args.top c.args.from c.args.line _
+    c.figures_why.ensures c.in-Fine.is
+
+pub returns-in-Refused : goal.returns-in-Refused
+returns-in-Refused c =
+    behind-refused c.args.most c.args.s.now c.args.table.now c.args.variables c.args.clauses c.args.top c.args.from c.args.line _
+    c.figures_why.ensures _ c.in-Refused.is
+
+pub returns-in-Fine : goal.returns-in-Fine
+returns-in-Fine c =
+    let fine = behind-fine c.args.most c.args.s.now c.args.table.now c.args.variables c.args.clauses c.args.top c.args.from c.args.line _ c.figures_why.ensures c.in-Fine.is in
+    record {
+      answer = fine.0;
+      words = c.store_rows.ensures ∙ fine.1;
+    }

@@ -1,0 +1,37 @@
+-- `write` meets its contract: refused by the table, or for want of room, or written.
+use mathlib.Core.Path.{ap, ◌∙◌}
+use native.Mathlib.Nat.{zero-add}
+use Rattle.rules.specs.declared.Written.{Written}
+use Rattle.rules.proofs.Admissible.{table-fine}
+use Rattle.text_laws.proofs.Matched.{matched}
+use Rattle.text_laws.proofs.LentBytes.{text-refused, text-no-room, text-stored}
+use Rattle.writer.proofs.write.Goals as goal
+
+pub put_table-n-requires : goal.put_table-n-requires
+put_table-n-requires c = (table-fine _ _ (matched c.table_why.ensures c.in-Fine.is)).few
+
+pub returns-then-out-n : goal.returns-then-out-n
+returns-then-out-n c =
+    let long = c.put_table-n.ensures.place ∙ zero-add _ in
+    text-no-room _ _ _
+    (matched c.table_why.ensures c.in-Fine.is)
+    (rw long at c.if-out-n.true)
+
+pub put_table-requires : goal.put_table-requires
+put_table-requires c = (table-fine _ _ (matched c.table_why.ensures c.in-Fine.is)).few
+
+pub returns-in-Refused : goal.returns-in-Refused
+returns-in-Refused c =
+    text-refused _ _ _ _
+    (matched c.table_why.ensures c.in-Refused.is)
+
+pub returns-else-out-n : goal.returns-else-out-n
+returns-else-out-n c =
+    let long = c.put_table-n.ensures.place ∙ zero-add _ in
+    let fine = text-stored _ _ _
+    (matched c.table_why.ensures c.in-Fine.is)
+    (rw long at c.if-out-n.false) in
+    record {
+      answer = ap Written.Bytes long ∙ fine.0;
+      bytes = c.put_table.ensures.bytes ∙ fine.1;
+    }
