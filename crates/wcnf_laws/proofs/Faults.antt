@@ -85,6 +85,7 @@ negative-out (l ∷ ls) v h =
 
 pub positive-in : (ls : List ℤ) (v : ℕ) → v < most_variables → Memᴰ (pos (suc v)) ls → has (lits_of_members ls).positive v ≡ true
 unfolding lits_of_members together
+positive-in [] v small m = elim m [ ]
 positive-in (x ∷ xs) v small (Memᴰ.head e) =
     let own : has (lits_of x).positive v ≡ true =
     subst (λ (z : ℤ). has (lits_of z).positive v ≡ true) e
@@ -95,6 +96,7 @@ positive-in (x ∷ xs) v small (Memᴰ.tail m) =
 
 pub negative-in : (ls : List ℤ) (v : ℕ) → v < most_variables → Memᴰ (negsuc v) ls → has (lits_of_members ls).negative v ≡ true
 unfolding lits_of_members together
+negative-in [] v small m = elim m [ ]
 negative-in (x ∷ xs) v small (Memᴰ.head e) =
     let own : has (lits_of x).negative v ≡ true =
     subst (λ (z : ℤ). has (lits_of z).negative v ≡ true) e

@@ -21,6 +21,7 @@ use Rattle.wcnf_laws.specs.Said.{clauses_at, SaysSame}
 -- a member is among the literals already
 pub member-held : (l : ℤ) (ls : List ℤ) → Memᴰ l ls → together (lits_of l) (lits_of_members ls) ≡ lits_of_members ls
 unfolding lits_of_members
+member-held l [] m = elim m [ ]
 member-held l (x ∷ xs) (Memᴰ.head e) =
     rw e (sym (together-assoc (lits_of x) (lits_of x) (lits_of_members xs)) ∙ ap (λ (k : Lits). together k (lits_of_members xs)) (together-self (lits_of x)))
 member-held l (x ∷ xs) (Memᴰ.tail m) =

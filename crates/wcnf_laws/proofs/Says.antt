@@ -115,6 +115,7 @@ module _ (f g : Form) (p : Held f) (q : Held g) (only : DifferOnly f g) where
 
 pub above_in : (variables : ℕ) (l : ℤ) (ls : List ℤ) → Memᴰ l ls → ltb variables (size l) ≡ true → some_above variables ls ≡ true
 unfolding some_above
+above_in variables l [] m t = elim m [ ]
 above_in variables l (x ∷ xs) (Memᴰ.head e) t = rw (ap (λ (z : ℤ). ltb variables (size z)) (sym e) ∙ t)
 above_in variables l (x ∷ xs) (Memᴰ.tail m) t = rw (above_in variables l xs m t) (or-true (ltb variables (size x)))
 

@@ -10,15 +10,15 @@ use Rattle.bound.proofs.bound.Goals as goal
 
 pub losses_by-requires : goal.losses_by-requires
 losses_by-requires c =
-    let well = sym c.well-formed-2.ensures ∙ c.if-well_formed.true in
+    let well = sym c.well_formed-2.ensures ∙ c.if-well_formed.true in
     readable c.args.desk.now well
 
 pub returns-then-well_formed : goal.returns-then-well_formed
 unfolding bounded desk_why
 returns-then-well_formed c =
-    rw (sym c.well-formed-2.ensures ∙ c.if-well_formed.true)
+    rw (sym c.well_formed-2.ensures ∙ c.if-well_formed.true)
     (ap (λ (l : Losses). Bounded.Bound l) (c.losses_by.ensures ∙ ap (λ (p : Part). losses_by c.args.choice c.args.desk.now p) c.decisions-p.ensures))
 
 pub returns-else-well_formed : goal.returns-else-well_formed
 unfolding bounded desk_why
-returns-else-well_formed c = rw (sym c.well-formed-2.ensures ∙ c.if-well_formed.false)
+returns-else-well_formed c = rw (sym c.well_formed-2.ensures ∙ c.if-well_formed.false)

@@ -9,50 +9,38 @@ use Rattle.deciding.proofs.Deciding.{decide-room, decide-early, decide-no-litera
 use Rattle.deciding.proofs.decide.Goals as goal
 
 pub returns-in_default : goal.returns-in_default
-returns-in_default c =
-    let s = c.before in
-    decide-early s.args.desk.now s.args.literal _ c.step_why-why.ensures _ c.in_default.is
+returns-in_default c = decide-early c.args.desk.now c.args.literal _ c.step_why-why.ensures _ c.in_default.is
 
 pub returns-in_default-new : goal.returns-in_default-new
 returns-in_default-new c =
-    let met : c.new.result ≡ offered c.before.args.literal = let s = c.before in
-    c.new.ensures ∙ ap offered (back s.args.literal s.ranges.literal) in
-    let s = c.before in
+    let met : c.new.result ≡ offered c.args.literal = c.new.ensures ∙ ap offered (back c.args.literal c.ranges.literal) in
     let refused = sym met ∙ c.in_default-new.is in
-    decide-no-literal s.args.desk.now s.args.literal _ c.step_why-why.ensures c.in-Fine.is refused
+    decide-no-literal c.args.desk.now c.args.literal _ c.step_why-why.ensures c.in-Fine.is refused
 
 pub out_of_reach-requires : goal.out_of_reach-requires
 out_of_reach-requires c =
-    let met : c.new.result ≡ offered c.before.args.literal = let s = c.before in
-    c.new.ensures ∙ ap offered (back s.args.literal s.ranges.literal) in
-    let z = c.before.before.args.literal in
-    let is = offered-fine z _ (sym met ∙ c.l.given.1) in
+    let met : c.new.result ≡ offered c.args.literal = c.new.ensures ∙ ap offered (back c.args.literal c.ranges.literal) in
+    let is = offered-fine c.args.literal _ (sym met ∙ c.in-Fine-new.is) in
     ap (λ (l : Literal). is_literal l.value) is.1 ∙ is.0
 
 pub returns-then-out_of_reach : goal.returns-then-out_of_reach
 returns-then-out_of_reach c =
-    let met : c.new.result ≡ offered c.before.args.literal = let s = c.before in
-    c.new.ensures ∙ ap offered (back s.args.literal s.ranges.literal) in
-    let s = c.before.before in
-    let made = sym met ∙ c.l.given.1 in
-    decide-out s.args.desk.now s.args.literal _ c.step-why.ensures c.enum_told.given.1 _ made _
+    let met : c.new.result ≡ offered c.args.literal = c.new.ensures ∙ ap offered (back c.args.literal c.ranges.literal) in
+    let made = sym met ∙ c.in-Fine-new.is in
+    decide-out c.args.desk.now c.args.literal _ c.step_why-why.ensures c.in-Fine.is _ made _
     c.out_of_reach.ensures c.if-out_of_reach.true
 
 pub decide_step-requires : goal.decide_step-requires
 decide_step-requires c =
-    let met : c.new.result ≡ offered c.before.args.literal = let s = c.before in
-    c.new.ensures ∙ ap offered (back s.args.literal s.ranges.literal) in
-    let s = c.before.before in
-    let made = sym met ∙ c.l.given.1 in
-    decide-room s.args.desk.now s.args.literal
-    (decide-in s.args.desk.now s.args.literal _ c.step-why.ensures c.enum_told.given.1 _ made _
+    let met : c.new.result ≡ offered c.args.literal = c.new.ensures ∙ ap offered (back c.args.literal c.ranges.literal) in
+    let made = sym met ∙ c.in-Fine-new.is in
+    decide-room c.args.desk.now c.args.literal
+    (decide-in c.args.desk.now c.args.literal _ c.step_why-why.ensures c.in-Fine.is _ made _
     c.out_of_reach.ensures c.if-out_of_reach.false)
 
 pub returns : goal.returns
 returns c =
-    let met : c.new.result ≡ offered c.before.args.literal = let s = c.before in
-    c.new.ensures ∙ ap offered (back s.args.literal s.ranges.literal) in
-    let s = c.before.before in
-    let made = sym met ∙ c.l.given.1 in
-    decide-done s.args.desk.now s.args.literal _ c.step-why.ensures c.enum_told.given.1 _ made _
+    let met : c.new.result ≡ offered c.args.literal = c.new.ensures ∙ ap offered (back c.args.literal c.ranges.literal) in
+    let made = sym met ∙ c.in-Fine-new.is in
+    decide-done c.args.desk.now c.args.literal _ c.step_why-why.ensures c.in-Fine.is _ made _
     c.out_of_reach.ensures _ c.if-out_of_reach.false c.decide_step.ensures

@@ -9,13 +9,13 @@ use Rattle.deciding.proofs.step_why.Goals as goal
 
 pub returns-then-not-well_formed : goal.returns-then-not-well_formed
 unfolding step_why
-returns-then-not-well_formed c = rw (ap not (sym c.well-formed-2.ensures) ∙ c.if-not-well_formed.true-raw)
+returns-then-not-well_formed c = rw (ap not (sym c.well_formed-2.ensures) ∙ c.if-not-well_formed.true-raw)
 
 pub returns-then-word-ge-MOST_STEPS : goal.returns-then-word-ge-MOST_STEPS
 unfolding step_why
 returns-then-word-ge-MOST_STEPS c =
     rw (
-      ap not (sym c.well-formed-2.ensures) ∙ c.if-not-well_formed.false-raw,
+      ap not (sym c.well_formed-2.ensures) ∙ c.if-not-well_formed.false-raw,
       le-leb most_steps (standing c.args.desk.now) (omega (arith, c.word.ensures)),
     )
 
@@ -23,6 +23,6 @@ pub returns : goal.returns
 unfolding step_why
 returns c =
     rw (
-      ap not (sym c.well-formed-2.ensures) ∙ c.if-not-well_formed.false-raw,
+      ap not (sym c.well_formed-2.ensures) ∙ c.if-not-well_formed.false-raw,
       lt-leb most_steps (standing c.args.desk.now) (omega (arith, c.word.ensures)),
     )

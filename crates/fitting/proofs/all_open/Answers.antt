@@ -33,23 +33,23 @@ row_on-row-requires c = c.requires.inside c.loop-i.i (omega arith)
 pub returns-then-is_hard-row : goal.returns-then-is_hard-row
 unfolding spent decisions
 returns-then-is_hard-row c =
-    let gave : not (c.is-hard.result || (eqb c.row_on.result.weight 0 || c.satisfied.result)) ≡ is_open
+    let gave : not (c.is_hard.result || (eqb c.row_on-row.result.weight 0 || c.satisfied.result)) ≡ is_open
     c.args.desk.now
-    c.args.named.now c.loop.i = let row = row_on c.args.desk.now (get_or c.args.named.now c.loop.i 0) in
-    rw (c.satisfied.ensures, c.is-hard.ensures, c.row_on.ensures)
+    c.args.named.now c.loop-i.i = let row = row_on c.args.desk.now (get_or c.args.named.now c.loop-i.i 0) in
+    rw (c.satisfied.ensures, c.is_hard.ensures, c.row_on-row.ensures)
     (once-hard (is_hard row) (eqb row.weight 0) (satisfied (decisions c.args.desk.now) row.lits)) in
-    sym (every-false (length c.args.named.now) (is_open c.args.desk.now c.args.named.now) c.loop.i (omega arith)
+    sym (every-false (length c.args.named.now) (is_open c.args.desk.now c.args.named.now) c.loop-i.i (omega arith)
     (sym gave ∙ ap not c.if-is_hard-row.true))
 
 pub loop-i-preserved : goal.loop-i-preserved
 unfolding spent decisions
 loop-i-preserved c =
-    let gave : not (c.is-hard.result || (eqb c.row_on.result.weight 0 || c.satisfied.result)) ≡ is_open
+    let gave : not (c.is_hard.result || (eqb c.row_on-row.result.weight 0 || c.satisfied.result)) ≡ is_open
     c.args.desk.now
-    c.args.named.now c.loop.i = let row = row_on c.args.desk.now (get_or c.args.named.now c.loop.i 0) in
-    rw (c.satisfied.ensures, c.is-hard.ensures, c.row_on.ensures)
+    c.args.named.now c.loop-i.i = let row = row_on c.args.desk.now (get_or c.args.named.now c.loop-i.i 0) in
+    rw (c.satisfied.ensures, c.is_hard.ensures, c.row_on-row.ensures)
     (once-hard (is_hard row) (eqb row.weight 0) (satisfied (decisions c.args.desk.now) row.lits)) in
-    (omega arith, every_more c.loop.i (is_open c.args.desk.now c.args.named.now) ∙ both c.loop.invariant.1 (sym gave ∙ ap not c.if-is_hard-row.false))
+    (omega arith, every_more c.loop-i.i (is_open c.args.desk.now c.args.named.now) ∙ both c.loop-i.invariant.1 (sym gave ∙ ap not c.if-is_hard-row.false))
 
 pub returns : goal.returns
 returns c =

@@ -9,6 +9,6 @@ returns c =
     rw (
       c.is_same.ensures,
       c.negated.ensures,
-      c.remnant-of.ensures,
-      c.follow.ensures,
+      c.remnant_of.ensures,
+      c.follow-link.ensures,
     )

@@ -18,5 +18,5 @@ returns c =
       c.remnant_of-two.ensures,
       c.remnant_of-one.ensures,
       c.negated-no.ensures,
-      c.follow.ensures,
+      c.follow-link.ensures,
     )

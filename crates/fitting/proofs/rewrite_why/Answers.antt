@@ -16,13 +16,13 @@ use Rattle.fitting.proofs.rewrite_why.Goals as goal
 
 pub returns-then-not-well_formed : goal.returns-then-not-well_formed
 unfolding rewrite_why
-returns-then-not-well_formed c = rw (ap not (sym c.well-formed-2.ensures) ∙ c.if-not-well_formed.true-raw)
+returns-then-not-well_formed c = rw (ap not (sym c.well_formed-2.ensures) ∙ c.if-not-well_formed.true-raw)
 
 pub returns-then-word-ge-MOST_STEPS : goal.returns-then-word-ge-MOST_STEPS
 unfolding rewrite_why
 returns-then-word-ge-MOST_STEPS c =
     rw (
-      ap not (sym c.well-formed-2.ensures)
+      ap not (sym c.well_formed-2.ensures)
           ∙ c.if-not-well_formed.false-raw,
       le-leb most_steps (standing c.args.desk.now) (omega (arith, c.word.ensures)),
     )
@@ -32,7 +32,7 @@ unfolding rewrite_why
 returns-then-not-well_named c =
     let few : leb most_steps (standing c.args.desk.now) ≡ false = lt-leb most_steps (standing c.args.desk.now) (omega (arith, c.word.ensures)) in
     rw (
-      ap not (sym c.well-formed-2.ensures)
+      ap not (sym c.well_formed-2.ensures)
           ∙ c.if-not-well_formed.false-raw,
       few,
       ap not (sym c.well_named.ensures) ∙ c.if-not-well_named.true-raw,
@@ -44,7 +44,7 @@ well_fitted-requires c =
     c.args.kind
     c.args.named.now = names c.args.desk.now c.args.kind c.args.named.now (sym c.well_named.ensures ∙ not-false _ c.if-not-well_named.false-raw) in
     let whole : Formed c.args.desk.now = formed c.args.desk.now
-    (sym c.well-formed-2.ensures ∙ not-false _ c.if-not-well_formed.false-raw) in
+    (sym c.well_formed-2.ensures ∙ not-false _ c.if-not-well_formed.false-raw) in
     let n = told in
     record {
       on_desk = on-desk c.args.desk.now c.args.named.now whole n.used;
@@ -56,7 +56,7 @@ unfolding rewrite_why
 returns-then-not-well_fitted c =
     let few : leb most_steps (standing c.args.desk.now) ≡ false = lt-leb most_steps (standing c.args.desk.now) (omega (arith, c.word.ensures)) in
     rw (
-      ap not (sym c.well-formed-2.ensures)
+      ap not (sym c.well_formed-2.ensures)
           ∙ c.if-not-well_formed.false-raw,
       few,
       ap not
@@ -70,7 +70,7 @@ added-requires c =
     c.args.kind
     c.args.named.now = names c.args.desk.now c.args.kind c.args.named.now (sym c.well_named.ensures ∙ not-false _ c.if-not-well_named.false-raw) in
     let whole : Formed c.args.desk.now = formed c.args.desk.now
-    (sym c.well-formed-2.ensures ∙ not-false _ c.if-not-well_formed.false-raw) in
+    (sym c.well_formed-2.ensures ∙ not-false _ c.if-not-well_formed.false-raw) in
     let n = told in
     record {
       on_desk = on-desk c.args.desk.now c.args.named.now whole n.used;
@@ -80,7 +80,7 @@ added-requires c =
 pub overflow_add-word : goal.overflow_add-word
 overflow_add-word c =
     let whole : Formed c.args.desk.now = formed c.args.desk.now
-    (sym c.well-formed-2.ensures ∙ not-false _ c.if-not-well_formed.false-raw) in
+    (sym c.well_formed-2.ensures ∙ not-false _ c.if-not-well_formed.false-raw) in
     let told : Names c.args.desk.now
     c.args.kind
     c.args.named.now = names c.args.desk.now c.args.kind c.args.named.now (sym c.well_named.ensures ∙ not-false _ c.if-not-well_named.false-raw) in
@@ -100,7 +100,7 @@ pub returns-then-word-added : goal.returns-then-word-added
 unfolding rewrite_why
 returns-then-word-added c =
     let whole : Formed c.args.desk.now = formed c.args.desk.now
-    (sym c.well-formed-2.ensures ∙ not-false _ c.if-not-well_formed.false-raw) in
+    (sym c.well_formed-2.ensures ∙ not-false _ c.if-not-well_formed.false-raw) in
     let told : Names c.args.desk.now
     c.args.kind
     c.args.named.now = names c.args.desk.now c.args.kind c.args.named.now (sym c.well_named.ensures ∙ not-false _ c.if-not-well_named.false-raw) in
@@ -115,7 +115,7 @@ returns-then-word-added c =
     lt-ltb (capacity c.args.desk.now) (in_use c.args.desk.now + length (stored (given c.args.desk.now c.args.kind c.args.named.now)))
     (omega (arith, c.word-3.ensures, c.word-2.ensures, sum)) in
     rw (
-      ap not (sym c.well-formed-2.ensures)
+      ap not (sym c.well_formed-2.ensures)
           ∙ c.if-not-well_formed.false-raw,
       few,
       ap not
@@ -130,7 +130,7 @@ pub returns : goal.returns
 unfolding rewrite_why
 returns c =
     let whole : Formed c.args.desk.now = formed c.args.desk.now
-    (sym c.well-formed-2.ensures ∙ not-false _ c.if-not-well_formed.false-raw) in
+    (sym c.well_formed-2.ensures ∙ not-false _ c.if-not-well_formed.false-raw) in
     let told : Names c.args.desk.now
     c.args.kind
     c.args.named.now = names c.args.desk.now c.args.kind c.args.named.now (sym c.well_named.ensures ∙ not-false _ c.if-not-well_named.false-raw) in
@@ -145,7 +145,7 @@ returns c =
     le-ltb (capacity c.args.desk.now) (in_use c.args.desk.now + length (stored (given c.args.desk.now c.args.kind c.args.named.now)))
     (omega (arith, c.word-3.ensures, c.word-2.ensures, sum)) in
     rw (
-      ap not (sym c.well-formed-2.ensures)
+      ap not (sym c.well_formed-2.ensures)
           ∙ c.if-not-well_formed.false-raw,
       few,
       ap not

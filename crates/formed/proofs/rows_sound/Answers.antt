@@ -21,16 +21,16 @@ loop-i-init c = (omega arith, every-empty _)
 pub returns-then-bad_lits-bad_mark : goal.returns-then-bad_lits-bad_mark
 returns-then-bad_lits-bad_mark c =
     let gave : not (c.bad_lits.result || c.bad_mark.result) ≡ sound c.args.desk.now
-    c.args.variables c.loop.i = ap not (ap₂ (λ (x y : Bool). x || y)
-    (c.bad_lits.ensures ∙ ap (λ (r : Row). bad_lits c.args.variables r.lits) c.row_on.ensures) (c.bad_mark.ensures ∙ ap bad_mark c.row_on.ensures)) in
-    sym (every-false c.args.n (sound c.args.desk.now c.args.variables) c.loop.i (omega arith) (sym gave ∙ ap not c.if-bad_lits-bad_mark.true))
+    c.args.variables c.loop-i.i = ap not (ap₂ (λ (x y : Bool). x || y)
+    (c.bad_lits.ensures ∙ ap (λ (r : Row). bad_lits c.args.variables r.lits) c.row_on-row.ensures) (c.bad_mark.ensures ∙ ap bad_mark c.row_on-row.ensures)) in
+    sym (every-false c.args.n (sound c.args.desk.now c.args.variables) c.loop-i.i (omega arith) (sym gave ∙ ap not c.if-bad_lits-bad_mark.true))
 
 pub loop-i-preserved : goal.loop-i-preserved
 loop-i-preserved c =
     let gave : not (c.bad_lits.result || c.bad_mark.result) ≡ sound c.args.desk.now
-    c.args.variables c.loop.i = ap not (ap₂ (λ (x y : Bool). x || y)
-    (c.bad_lits.ensures ∙ ap (λ (r : Row). bad_lits c.args.variables r.lits) c.row_on.ensures) (c.bad_mark.ensures ∙ ap bad_mark c.row_on.ensures)) in
-    (omega arith, every_more c.loop.i (sound c.args.desk.now c.args.variables) ∙ both c.loop.invariant.1 (sym gave ∙ ap not c.if-bad_lits-bad_mark.false))
+    c.args.variables c.loop-i.i = ap not (ap₂ (λ (x y : Bool). x || y)
+    (c.bad_lits.ensures ∙ ap (λ (r : Row). bad_lits c.args.variables r.lits) c.row_on-row.ensures) (c.bad_mark.ensures ∙ ap bad_mark c.row_on-row.ensures)) in
+    (omega arith, every_more c.loop-i.i (sound c.args.desk.now c.args.variables) ∙ both c.loop-i.invariant.1 (sym gave ∙ ap not c.if-bad_lits-bad_mark.false))
 
 pub returns : goal.returns
 returns c =

@@ -5,4 +5,4 @@ use lib.ListN.{get_or-eq_default}
 use Rattle.kinds.proofs.figure.Goals as goal
 
 pub returns-else-kind : goal.returns-else-kind
-returns-else-kind c = sym (get_or-eq_default c.args.t1 0 {n = c.args.kind} (omega arith))
+returns-else-kind c = sym (get_or-eq_default c.args.table 0 {n = c.args.kind} (omega arith))

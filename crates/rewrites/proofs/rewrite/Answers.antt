@@ -7,11 +7,10 @@ use Rattle.rewrites.proofs.rewrite.Goals as goal
 pub returns-in_default : goal.returns-in_default
 unfolding rewrite_desk
 returns-in_default c =
-    let a = c.before.args in
     record {
       value = c.rewrite_why-why.ensures;
-      desk_after = sym (words-refused (rewrite_why a.desk.now a.kind a.named.now) (rewrite_step a.desk.now a.kind a.named.now)
-          a.desk.now _ (sym c.rewrite_why-why.ensures ∙ c.in_default.is));
+      desk_after = sym (words-refused (rewrite_why c.args.desk.now c.args.kind c.args.named.now) (rewrite_step c.args.desk.now c.args.kind c.args.named.now)
+          c.args.desk.now _ (sym c.rewrite_why-why.ensures ∙ c.in_default.is));
     }
 
 pub rewrite_step-requires : goal.rewrite_step-requires
@@ -20,10 +19,9 @@ rewrite_step-requires c = sym c.rewrite_why-why.ensures ∙ c.in-Fine.is
 pub returns : goal.returns
 unfolding rewrite_desk
 returns c =
-    let a = c.before.args in
     let fine = sym c.rewrite_why-why.ensures ∙ c.in-Fine.is in
     record {
       value = sym fine;
       desk_after = c.rewrite_step.ensures
-          ∙ sym (words-fine (rewrite_why a.desk.now a.kind a.named.now) (rewrite_step a.desk.now a.kind a.named.now) a.desk.now fine);
+          ∙ sym (words-fine (rewrite_why c.args.desk.now c.args.kind c.args.named.now) (rewrite_step c.args.desk.now c.args.kind c.args.named.now) c.args.desk.now fine);
     }

@@ -7,10 +7,9 @@ use Rattle.taking_back.proofs.take_back.Goals as goal
 pub returns-in_default : goal.returns-in_default
 unfolding take_back_desk
 returns-in_default c =
-    let d = c.before.args.desk.now in
     record {
       value = c.take_back_why-why.ensures;
-      desk_after = sym (words-refused (take_back_why d) (take_back_step d) d _ (sym c.take_back_why-why.ensures ∙ c.in_default.is));
+      desk_after = sym (words-refused (take_back_why c.args.desk.now) (take_back_step c.args.desk.now) c.args.desk.now _ (sym c.take_back_why-why.ensures ∙ c.in_default.is));
     }
 
 pub take_back_step-requires : goal.take_back_step-requires
@@ -19,9 +18,8 @@ take_back_step-requires c = sym c.take_back_why-why.ensures ∙ c.in-Fine.is
 pub returns : goal.returns
 unfolding take_back_desk
 returns c =
-    let d = c.before.args.desk.now in
     let fine = sym c.take_back_why-why.ensures ∙ c.in-Fine.is in
     record {
       value = sym fine;
-      desk_after = c.take_back_step.ensures ∙ sym (words-fine (take_back_why d) (take_back_step d) d fine);
+      desk_after = c.take_back_step.ensures ∙ sym (words-fine (take_back_why c.args.desk.now) (take_back_step c.args.desk.now) c.args.desk.now fine);
     }

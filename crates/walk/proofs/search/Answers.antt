@@ -9,13 +9,13 @@ use Rattle.walk.proofs.search.Goals as goal
 
 pub found_by_choice-requires : goal.found_by_choice-requires
 found_by_choice-requires c =
-    let well = sym c.well-formed-2.ensures ∙ c.if-well_formed.true in
+    let well = sym c.well_formed-2.ensures ∙ c.if-well_formed.true in
     readable c.args.desk.now well
 
 pub returns-then-well_formed : goal.returns-then-well_formed
 unfolding searched desk_why
-returns-then-well_formed c = rw (sym c.well-formed-2.ensures ∙ c.if-well_formed.true) (ap (λ (x : Found). Searched.Found x) c.found_by_choice.ensures)
+returns-then-well_formed c = rw (sym c.well_formed-2.ensures ∙ c.if-well_formed.true) (ap (λ (x : Found). Searched.Found x) c.found_by_choice.ensures)
 
 pub returns-else-well_formed : goal.returns-else-well_formed
 unfolding searched desk_why
-returns-else-well_formed c = rw (sym c.well-formed-2.ensures ∙ c.if-well_formed.false)
+returns-else-well_formed c = rw (sym c.well_formed-2.ensures ∙ c.if-well_formed.false)

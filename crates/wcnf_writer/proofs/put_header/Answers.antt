@@ -16,10 +16,10 @@ pub put_number_line-requires : goal.put_number_line-requires
 put_number_line-requires c =
     let one = number-length c.args.variables in
     let two = number-length c.args.clauses in
-    omega (arith, c.put.ensures.place, c.put-number.ensures.place, c.put-key.ensures.place)
+    omega (arith, c.put-second.ensures.place, c.put_number-gap.ensures.place, c.put_key-first.ensures.place)
 
 pub returns : goal.returns
 returns c =
-    stored-both c.put-key.ensures
-    (stored-both c.put-number.ensures
-    (stored-both c.put.ensures (stored-both c.put-number2.ensures c.put_number_line.ensures)))
+    stored-both c.put_key-first.ensures
+    (stored-both c.put_number-gap.ensures
+    (stored-both c.put-second.ensures (stored-both c.put_number-third.ensures c.put_number_line.ensures)))

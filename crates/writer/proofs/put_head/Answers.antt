@@ -6,13 +6,13 @@ use Rattle.pieces_written.proofs.Storing.{stored-both}
 use Rattle.writer.proofs.put_head.Goals as goal
 
 pub put_number_line-third-requires : goal.put_number_line-third-requires
-put_number_line-third-requires c = omega (arith, c.put-number-line.ensures.place, line-length vars_key c.args.variables)
+put_number_line-third-requires c = omega (arith, c.put_number_line-second.ensures.place, line-length vars_key c.args.variables)
 
 pub put_number_line-requires : goal.put_number_line-requires
 put_number_line-requires c =
     let one = line-length vars_key c.args.variables in
     let two = line-length budget_key c.args.budget in
-    omega (arith, c.put-number-line2.ensures.place, c.put-number-line.ensures.place)
+    omega (arith, c.put_number_line-third.ensures.place, c.put_number_line-second.ensures.place)
 
 pub returns : goal.returns
-returns c = stored-both c.put-number-line.ensures (stored-both c.put-number-line2.ensures c.put_number_line.ensures)
+returns c = stored-both c.put_number_line-second.ensures (stored-both c.put_number_line-third.ensures c.put_number_line.ensures)

@@ -14,7 +14,7 @@ pub put_number_line-fourth-requires : goal.put_number_line-fourth-requires
 put_number_line-fourth-requires c =
     let status = status-length c.args.found.status in
     let weight = weight-length c.args.found.best in
-    omega (arith, c.put-weight.ensures.place, c.put-status.ensures.place)
+    omega (arith, c.put_weight-third.ensures.place, c.put_status-second.ensures.place)
 
 pub put_reading-fifth-requires : goal.put_reading-fifth-requires
 put_reading-fifth-requires c =
@@ -22,7 +22,7 @@ put_reading-fifth-requires c =
     let weight = weight-length c.args.found.best in
     let nodes = line-length nodes_key c.args.found.nodes in
     record {
-      most_reading_line_bound = omega (arith, c.put_number_line-fourth.ensures.place, c.put-weight.ensures.place, c.put-status.ensures.place);
+      most_reading_line_bound = omega (arith, c.put_number_line-fourth.ensures.place, c.put_weight-third.ensures.place, c.put_status-second.ensures.place);
       variables_le_most_variables = c.requires;
     }
 
@@ -32,12 +32,12 @@ put_losses-requires c =
     let weight = weight-length c.args.found.best in
     let nodes = line-length nodes_key c.args.found.nodes in
     let reading = reading-length c.args.variables c.args.found.best c.requires in
-    omega (arith, c.put_reading-fifth.ensures.place, c.put_number_line-fourth.ensures.place, c.put-weight.ensures.place, c.put-status.ensures.place)
+    omega (arith, c.put_reading-fifth.ensures.place, c.put_number_line-fourth.ensures.place, c.put_weight-third.ensures.place, c.put_status-second.ensures.place)
 
 pub returns : goal.returns
 returns c =
     rw (found-is c.args.variables c.args.root c.args.found)
-    (stored-both c.put-status.ensures
-    (stored-both c.put-weight.ensures
+    (stored-both c.put_status-second.ensures
+    (stored-both c.put_weight-third.ensures
     (stored-both c.put_number_line-fourth.ensures
     (stored-both c.put_reading-fifth.ensures c.put_losses.ensures))))

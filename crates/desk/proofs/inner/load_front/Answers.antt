@@ -3,11 +3,7 @@ use Rattle.desk.proofs.Fronts.{front-refused, front-fine}
 use Rattle.desk.proofs.inner.load_front.Goals as goal
 
 pub returns-in_default : goal.returns-in_default
-returns-in_default c =
-    let s = c.before in
-    front-refused s.args.variables s.args.rows s.args.words.now s.requires _ _ c.table_why-why.ensures c.in_default.is
+returns-in_default c = front-refused c.args.variables c.args.rows c.args.words.now c.requires _ _ c.table_why-why.ensures c.in_default.is
 
 pub returns : goal.returns
-returns c =
-    let s = c.before in
-    front-fine s.args.variables s.args.rows s.args.words.now s.requires _ _ c.table_why-why.ensures c.in-Fine.is c.lay_head.ensures
+returns c = front-fine c.args.variables c.args.rows c.args.words.now c.requires _ _ c.table_why-why.ensures c.in-Fine.is c.lay_head.ensures

@@ -8,28 +8,25 @@ use Rattle.desk.proofs.lay.load.Goals as goal
 pub returns-in_default : goal.returns-in_default
 unfolding load_desk
 returns-in_default c =
-    let a = c.before.args in
     record {
       value = c.load_why-why.ensures;
-      desk_after = sym (words-refused (load_why a.variables a.table.now a.capacity a.desk.now)
-          (load_step a.variables a.table.now a.capacity a.desk.now) a.desk.now _ (sym c.load_why-why.ensures ∙ c.in_default.is));
+      desk_after = sym (words-refused (load_why c.args.variables c.args.table.now c.args.capacity c.args.desk.now)
+          (load_step c.args.variables c.args.table.now c.args.capacity c.args.desk.now) c.args.desk.now _ (sym c.load_why-why.ensures ∙ c.in_default.is));
     }
 
 pub lay-requires : goal.lay-requires
 lay-requires c =
-    let a = c.before.args in
     let room =
-    load-room a.variables a.table.now a.capacity a.desk.now
+    load-room c.args.variables c.args.table.now c.args.capacity c.args.desk.now
     (sym c.load_why-why.ensures ∙ c.in-Fine.is) in
     (room.0, (room.1, room.2))
 
 pub returns : goal.returns
 unfolding load_desk
 returns c =
-    let a = c.before.args in
     record {
       value = sym (sym c.load_why-why.ensures ∙ c.in-Fine.is);
       desk_after = c.lay.ensures
-          ∙ sym (words-fine (load_why a.variables a.table.now a.capacity a.desk.now)
-          (load_step a.variables a.table.now a.capacity a.desk.now) a.desk.now (sym c.load_why-why.ensures ∙ c.in-Fine.is));
+          ∙ sym (words-fine (load_why c.args.variables c.args.table.now c.args.capacity c.args.desk.now)
+          (load_step c.args.variables c.args.table.now c.args.capacity c.args.desk.now) c.args.desk.now (sym c.load_why-why.ensures ∙ c.in-Fine.is));
     }

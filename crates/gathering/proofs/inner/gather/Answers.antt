@@ -9,37 +9,37 @@ pub row_on-there-requires : goal.row_on-there-requires
 row_on-there-requires c = omega (arith, c.requires.lying.rows, c.requires.traced.conflict)
 
 pub offset_bounds-weights-c : goal.offset_bounds-weights-c
-offset_bounds-weights-c c = omega (arith, c.requires.0.weights, c.requires.1.1.conflict)
+offset_bounds-weights-c c = omega (arith, c.requires.lying.weights, c.requires.traced.conflict)
 
 pub bounds-weights-c : goal.bounds-weights-c
-bounds-weights-c c = omega (arith, c.requires.0.weights, c.requires.1.1.conflict)
+bounds-weights-c c = omega (arith, c.requires.lying.weights, c.requires.traced.conflict)
 
 pub bounds-group-0 : goal.bounds-group-0
-bounds-group-0 c = omega (arith, c.requires.1.0.1)
+bounds-group-0 c = omega (arith, c.requires.lent.1)
 
 pub loop-k-init : goal.loop-k-init
-loop-k-init c = (omega arith, omega arith, simp length-set c.requires.1.0.1, refl)
+loop-k-init c = (omega arith, omega arith, simp length-set c.requires.lent.1, refl)
 
 -- entry k - 1 is there, and its row in use
 pub offset_bounds-masks-k : goal.offset_bounds-masks-k
-offset_bounds-masks-k c = omega (arith, c.requires.1.1.entries, c.loop-k.invariant.0)
+offset_bounds-masks-k c = omega (arith, c.requires.traced.entries, c.loop-k.invariant.0)
 
 pub bounds-masks-k : goal.bounds-masks-k
-bounds-masks-k c = omega (arith, c.requires.1.1.entries, c.requires.1.0.0.masks, c.loop-k.invariant.0)
+bounds-masks-k c = omega (arith, c.requires.traced.entries, c.requires.lent.0.masks, c.loop-k.invariant.0)
 
 pub offset_bounds-rows-k : goal.offset_bounds-rows-k
-offset_bounds-rows-k c = omega (arith, c.requires.1.1.entries, c.loop-k.invariant.0)
+offset_bounds-rows-k c = omega (arith, c.requires.traced.entries, c.loop-k.invariant.0)
 
 pub bounds-rows-k : goal.bounds-rows-k
-bounds-rows-k c = omega (arith, c.requires.1.1.entries, c.requires.1.0.0.rows, c.loop-k.invariant.0)
+bounds-rows-k c = omega (arith, c.requires.traced.entries, c.requires.lent.0.rows, c.loop-k.invariant.0)
 
 pub join-g-requires : goal.join-g-requires
 join-g-requires c =
-    let used = c.requires.1.1.each (c.loop-k.k - 1) (omega (arith, c.loop-k.invariant.0)) in
+    let used = c.requires.traced.each (c.loop-k.k - 1) (omega (arith, c.loop-k.invariant.0)) in
     record {
-      row = omega (arith, c.requires.0.rows, used);
-      weight = omega (arith, c.requires.0.weights, used);
-      room = omega (arith, c.requires.1.1.entries, c.loop-k.invariant.1, c.loop-k.invariant.2);
+      row = omega (arith, c.requires.lying.rows, used);
+      weight = omega (arith, c.requires.lying.weights, used);
+      room = omega (arith, c.requires.traced.entries, c.loop-k.invariant.1, c.loop-k.invariant.2);
     }
 
 pub loop-k-preserved : goal.loop-k-preserved
@@ -54,15 +54,15 @@ loop-k-preserved c =
     )
 
 pub shape_of-group : goal.shape_of-group
-shape_of-group c = c.loop-k.invariant.2 ∙ sym c.requires.1.0.1
+shape_of-group c = c.loop-k.invariant.2 ∙ sym c.requires.lent.1
 
 pub returns : goal.returns
 returns c =
     record {
       group_after = gather-done c.args.desk.now c.args.weights.now c.args.p (λ j. get_or c.args.masks.now j 0) (λ j. get_or c.args.rows.now j 0) c.loop-k.k _ _ c.loop-k.invariant.3 (omega arith)
           ∙ gather-all c.args.desk.now c.args.weights.now c.args.p c.args.t c.args.masks.now c.args.rows.now _
-          (conflict-first c.args.desk.now c.args.weights.now c.args.p c.args.t.conflict c.args.group.now (omega (arith, c.requires.1.0.1)) _
-          c.row_on.ensures _
+          (conflict-first c.args.desk.now c.args.weights.now c.args.p c.args.t.conflict c.args.group.now (omega (arith, c.requires.lent.1)) _
+          c.row_on-there.ensures _
           c.remnant-rest.ensures);
-      size_le_group_words = omega (arith, c.loop-k.invariant.1, c.requires.1.1.entries);
+      size_le_group_words = omega (arith, c.loop-k.invariant.1, c.requires.traced.entries);
     }

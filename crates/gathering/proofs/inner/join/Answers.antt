@@ -13,8 +13,8 @@ returns-then-variable-g-eq0 c =
 pub returns : goal.returns
 returns c =
     record {
-      group_after = needed-joins c.args.desk.now c.args.weights.now c.args.p c.args.variable c.args.row c.args.g c.args.group.now _ c.row_on.ensures _
+      group_after = needed-joins c.args.desk.now c.args.weights.now c.args.p c.args.variable c.args.row c.args.g c.args.group.now _ c.row_on-there.ensures _
           c.remnant-rest.ensures
-          c.if1.left c.pre.room _ c.smaller-cost.ensures;
+          c.if-variable-g-eq0.left c.requires.room _ c.smaller-cost.ensures;
       size_bound = omega arith;
     }

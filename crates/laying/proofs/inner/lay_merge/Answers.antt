@@ -17,7 +17,7 @@ remnants c = remnant_of (start c).args.desk.now (start c).args.named.now
 pub returns-then-is_empty : goal.returns-then-is_empty
 unfolding given gives stored
 returns-then-is_empty c =
-    let rest : let f = remnants c in c.apart_from-rest.result ≡ apart_from (clash (f 0) (f 1)) (f 0) = rw (c.apart_from-rest.ensures, c.clash.ensures, c.remnant_of-m.ensures, c.remnant-of.ensures) in
+    let rest : let f = remnants c in c.apart_from-rest.result ≡ apart_from (clash (f 0) (f 1)) (f 0) = rw (c.apart_from-rest.ensures, c.clash.ensures, c.remnant_of-m.ensures, c.remnant_of-l.ensures) in
     let s = start c in
     rw (← rest, sym c.is_empty.ensures ∙ c.if-is_empty.true)
     (sym (laid_none s.args.desk.now s.args.first s.args.w))
@@ -25,7 +25,7 @@ returns-then-is_empty c =
 pub returns : goal.returns
 unfolding given gives stored
 returns c =
-    let rest : let f = remnants c in c.apart_from-rest.result ≡ apart_from (clash (f 0) (f 1)) (f 0) = rw (c.apart_from-rest.ensures, c.clash.ensures, c.remnant_of-m.ensures, c.remnant-of.ensures) in
+    let rest : let f = remnants c in c.apart_from-rest.result ≡ apart_from (clash (f 0) (f 1)) (f 0) = rw (c.apart_from-rest.ensures, c.clash.ensures, c.remnant_of-m.ensures, c.remnant_of-l.ensures) in
     let s = start c in
     rw (← rest, sym c.is_empty.ensures ∙ c.if-is_empty.false)
     (c.set_row.ensures

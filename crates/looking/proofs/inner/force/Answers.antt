@@ -34,9 +34,9 @@ overflow_add-entries c =
 pub returns : goal.returns
 returns c =
     let room : c.args.t.entries < 64 = omega (arith, c.requires.roomy.short, room-left c.args.l c.args.t.q (search rules) c.requires.l_value.0 c.requires.l_value.1) in
-    let one = (left_one c.args.l.positive c.args.l.negative (search rules) c.requires.0.0).0 in
-    let grown = one_more c.args.l c.args.t.q (search rules) c.requires.0.0 c.requires.0.1 in
+    let one = (left_one c.args.l.positive c.args.l.negative (search rules) c.requires.l_value.0).0 in
+    let grown = one_more c.args.l c.args.t.q (search rules) c.requires.l_value.0 c.requires.l_value.1 in
     record {
-      rows_after = forced-stored c.args.t c.args.masks.now c.args.rows.now c.args.i c.args.l c.requires.1 room _ c.made_true-q.ensures;
-      roomy_2 = forced-roomy c.args.t c.args.masks.now c.args.rows.now c.args.i c.args.l c.requires.1 room _ c.made_true-q.ensures one grown;
+      rows_after = forced-stored c.args.t c.args.masks.now c.args.rows.now c.args.i c.args.l c.requires.roomy room _ c.made_true-q.ensures;
+      roomy_2 = forced-roomy c.args.t c.args.masks.now c.args.rows.now c.args.i c.args.l c.requires.roomy room _ c.made_true-q.ensures one grown;
     }

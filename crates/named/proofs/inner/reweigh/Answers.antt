@@ -18,48 +18,32 @@ pub loop-i-init : goal.loop-i-init
 loop-i-init c = (omega arith, sym (reweighed-none _ _ _), refl)
 
 pub row_on-weight-requires : goal.row_on-weight-requires
-row_on-weight-requires c =
-    let s = c.before in
-    omega (arith, s.requires.inside c.loop.i (omega arith))
+row_on-weight-requires c = omega (arith, c.requires.inside c.loop-i.i (omega arith))
 
 pub changed-requires : goal.changed-requires
 changed-requires c =
-    let old : let start = c.before in
-    c.row_on-weight.result.weight ≡ (row_on start.args.desk.now
-    (row start.args.named.now c.loop.i)).weight = let s =
-    let back7 = c.before in
-    back7 in
-    ap (λ (r : Row). r.weight) c.row_on-weight.ensures
-    ∙ ap (λ (e : List ℕ). (row_on e (row s.args.named.now c.loop.i)).weight) c.loop.invariant.1
-    ∙ weight-yet (new_weight s.args.w s.args.regain) (row s.args.named.now) s.args.desk.now (length s.args.named.now) c.loop.i
-    s.pre.apart (omega arith) in
-    let s =
-    let back8 = c.before in
-    back8 in
-    rw old (s.pre.fits c.loop.i (omega arith), s.pre.holds c.loop.i (omega arith))
+    let old : c.row_on-weight.result.weight ≡ (row_on c.args.desk.now
+    (row c.args.named.now c.loop-i.i)).weight = ap (λ (r : Row). r.weight) c.row_on-weight.ensures
+    ∙ ap (λ (e : List ℕ). (row_on e (row c.args.named.now c.loop-i.i)).weight) c.loop-i.invariant.1
+    ∙ weight-yet (new_weight c.args.w c.args.regain) (row c.args.named.now) c.args.desk.now (length c.args.named.now) c.loop-i.i
+    c.requires.apart (omega arith) in
+    rw old (c.requires.fits c.loop-i.i (omega arith), c.requires.holds c.loop-i.i (omega arith))
 
 pub set_weight-requires : goal.set_weight-requires
-set_weight-requires c =
-    let s =
-    let back9 = c.before in
-    back9 in
-    omega (arith, s.pre.inside c.loop.i (omega arith))
+set_weight-requires c = omega (arith, c.requires.inside c.loop-i.i (omega arith))
 
 pub loop-i-preserved : goal.loop-i-preserved
 loop-i-preserved c =
-    let s =
-    let back12 = c.before in
-    back12 in
-    let k = row s.args.named.now c.loop.i in
-    let f = new_weight s.args.w s.args.regain in
-    let g = reweighed f (row s.args.named.now) s.args.desk.now c.loop.i in
+    let k = row c.args.named.now c.loop-i.i in
+    let f = new_weight c.args.w c.args.regain in
+    let g = reweighed f (row c.args.named.now) c.args.desk.now c.loop-i.i in
     let w : c.changed.result ≡ f (row_on g k).weight =
     c.changed.ensures
-    ∙ ap f (ap (λ (x : Row). x.weight) c.row_on-weight.ensures ∙ ap (λ (x : List ℕ). (row_on x k).weight) c.loop.inv.1) in (
+    ∙ ap f (ap (λ (x : Row). x.weight) c.row_on-weight.ensures ∙ ap (λ (x : List ℕ). (row_on x k).weight) c.loop-i.inv.1) in (
       omega arith,
-      c.set_weight.ensures ∙ ap (λ (x : List ℕ). set_weight x k c.changed.result) c.loop.inv.1 ∙ ap (set_weight g k) w
-          ∙ sym (reweighed-more f (row s.args.named.now) s.args.desk.now c.loop.i),
-      ap length c.set_weight.ensures ∙ length-set-weight _ _ _ ∙ c.loop.inv.2,
+      c.set_weight.ensures ∙ ap (λ (x : List ℕ). set_weight x k c.changed.result) c.loop-i.inv.1 ∙ ap (set_weight g k) w
+          ∙ sym (reweighed-more f (row c.args.named.now) c.args.desk.now c.loop-i.i),
+      ap length c.set_weight.ensures ∙ length-set-weight _ _ _ ∙ c.loop-i.inv.2,
     )
 
 pub returns : goal.returns

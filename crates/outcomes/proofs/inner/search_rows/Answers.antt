@@ -18,7 +18,5 @@ returns-in-Refused c = not-loaded c.args.variables c.args.budget c.args.rows c.a
 
 pub returns-in-Fine : goal.returns-in-Fine
 returns-in-Fine c =
-    let s = c.before.before.before in
-    let a = s.args in
-    loaded a.variables a.budget a.rows a.words.now s.requires _ _ c.load-front.ensures.0 c.enum_told.given.1 c.load-front.ensures.1 _ _ _
-    c.decisions.ensures c.losses-at.ensures c.found_on-found.ensures
+    loaded c.args.variables c.args.budget c.args.rows c.args.words.now c.requires _ _ c.load_front.ensures.value c.in-Fine.is c.load_front.ensures.words_after _ _ _
+    c.decisions-p.ensures c.losses_at-root.ensures c.found_on-found.ensures

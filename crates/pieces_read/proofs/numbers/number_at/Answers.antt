@@ -16,7 +16,7 @@ overflow_add-next c =
 
 pub returns-then-n-first : goal.returns-then-n-first
 returns-then-n-first c =
-    rw c.value_of_lem.ensures
+    rw c.value_of-value.ensures
     (sym (number_is c.args.s.now c.args.at c.digit_run-n.result c.byte_at-first.result c.digit_run-n.ensures c.byte_at-first.ensures c.if-n-first.true))
 
 pub returns-else-n-first : goal.returns-else-n-first

@@ -11,21 +11,21 @@ pub returns-in_default-number_line : goal.returns-in_default-number_line
 returns-in_default-number_line c =
     sym
     (head-no-budget c.args.s.now _ _
-    (matched c.number-line.ensures c.variables.given.1)
+    (matched c.number_line.ensures c.in-Number.is)
     (matched c.number_line-2.ensures c.in_default-number_line.is))
 
 pub returns-in_default-number_line-2 : goal.returns-in_default-number_line-2
 returns-in_default-number_line-2 c =
     sym
     (head-no-rows c.args.s.now _ _ _ _
-    (matched c.number-line.ensures c.variables.given.1)
-    (matched c.number-line2.ensures c.budget.given.1)
+    (matched c.number_line.ensures c.in-Number.is)
+    (matched c.number_line-2.ensures c.in-Number-number_line.is)
     (matched c.number_line-3.ensures c.in_default-number_line-2.is))
 
 pub returns : goal.returns
 returns c =
     sym
     (head-is c.args.s.now _ _ _ _ _ _
-    (matched c.number-line.ensures c.variables.given.1)
-    (matched c.number-line2.ensures c.budget.given.1)
+    (matched c.number_line.ensures c.in-Number.is)
+    (matched c.number_line-2.ensures c.in-Number-number_line.is)
     (matched c.number_line-3.ensures c.in-Number-number_line-2.is))

@@ -8,4 +8,4 @@ row_on-row-requires c = c.requires.on_desk.inside c.args.i c.requires.i_in_bound
 
 pub returns : goal.returns
 unfolding remnant_of decisions
-returns c = rw (c.remnant.ensures, c.row_on.ensures)
+returns c = rw (c.remnant.ensures, c.row_on-row.ensures)

@@ -41,10 +41,9 @@ bounds-desk-1 c =
 pub lightest-w-requires : goal.lightest-w-requires
 lightest-w-requires c =
     let accepted : Rewritten c.args.desk.now c.args.kind c.args.named.now = rewrite-fine c.args.desk.now c.args.kind c.args.named.now c.requires in
-    let s = c.before in
     record {
-      on_desk = lies _ _ _ (accepted s);
-      in_bounds = omega (arith, some-named _ _ _ (accepted s));
+      on_desk = lies _ _ _ accepted;
+      in_bounds = omega (arith, some-named _ _ _ accepted);
     }
 
 pub added-rows-requires : goal.added-rows-requires

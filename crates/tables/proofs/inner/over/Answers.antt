@@ -4,4 +4,4 @@ use Rattle.tables.proofs.inner.over.Goals as goal
 
 pub returns : goal.returns
 unfolding row_on row_place
-returns c = c.Sum-over.ensures
+returns c = c.sum_over.ensures

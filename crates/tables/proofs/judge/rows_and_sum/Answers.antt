@@ -12,11 +12,11 @@ returns-in_default c = rw (← c.rows_why-why.ensures, c.in_default.is)
 pub returns-then-sum_over : goal.returns-then-sum_over
 unfolding rows_and_sum_why row_count
 returns-then-sum_over c =
-    let over = sym (sum-from-first c.args.table.now) ∙ sym c.Sum-over.ensures ∙ c.if-sum_over.true in
+    let over = sym (sum-from-first c.args.table.now) ∙ sym c.sum_over.ensures ∙ c.if-sum_over.true in
     rw (← c.rows_why-why.ensures, c.in-Fine.is, over)
 
 pub returns : goal.returns
 unfolding rows_and_sum_why row_count
 returns c =
-    let over = sym (sum-from-first c.args.table.now) ∙ sym c.Sum-over.ensures ∙ c.if-sum_over.false in
+    let over = sym (sum-from-first c.args.table.now) ∙ sym c.sum_over.ensures ∙ c.if-sum_over.false in
     rw (← c.rows_why-why.ensures, c.in-Fine.is, over)

@@ -9,40 +9,35 @@ use Rattle.taking_back.proofs.inner.take_back_step.Goals as goal
 
 pub last_word-requires : goal.last_word-requires
 last_word-requires c =
-    let s = c.before in
     record {
-      step_stands = steps-still _ s.requires;
+      step_stands = steps-still _ c.requires;
       k_lt_entry_words = omega arith;
     }
 
 pub undo_decision-requires : goal.undo_decision-requires
 undo_decision-requires c =
-    let s = c.before in
     record {
-      desk_value = s.requires;
-      desk_value_2 = sym (c.last_word.ensures ∙ kind-word s.args.desk.now) ∙ c.if-last_word-eq0.true;
+      desk_value = c.requires;
+      desk_value_2 = sym (c.last_word.ensures ∙ kind-word c.args.desk.now) ∙ c.if-last_word-eq0.true;
     }
 
 pub returns-then-last_word-eq0 : goal.returns-then-last_word-eq0
 unfolding take_back_step
 returns-then-last_word-eq0 c =
-    let s = c.before in
     let k =
-    sym (c.last_word.ensures ∙ kind-word s.args.desk.now) ∙ c.if-last_word-eq0.true in
-    rw (eq-eqb (last_kind s.args.desk.now) 0 k) c.undo_decision.ensures
+    sym (c.last_word.ensures ∙ kind-word c.args.desk.now) ∙ c.if-last_word-eq0.true in
+    rw (eq-eqb (last_kind c.args.desk.now) 0 k) c.undo_decision.ensures
 
 pub undo_rewriting-requires : goal.undo_rewriting-requires
 undo_rewriting-requires c =
-    let s = c.before in
-    let k = c.last_word.ensures ∙ kind-word s.args.desk.now in
+    let k = c.last_word.ensures ∙ kind-word c.args.desk.now in
     record {
-      desk_value = s.requires;
+      desk_value = c.requires;
       desk_nonzero = omega (arith, k, c.if-last_word-eq0.false);
     }
 
 pub returns : goal.returns
 unfolding take_back_step
 returns c =
-    let s = c.before in
-    let k = c.last_word.ensures ∙ kind-word s.args.desk.now in
-    rw (ne_eqb (last_kind s.args.desk.now) 0 (λ e. c.before.before.before.before.if1.false (k ∙ e))) c.undo_rewriting.ensures
+    let k = c.last_word.ensures ∙ kind-word c.args.desk.now in
+    rw (ne_eqb (last_kind c.args.desk.now) 0 (λ e. c.before.before.before.before.if1.false (k ∙ e))) c.undo_rewriting.ensures

@@ -9,50 +9,29 @@ use Rattle.taking_back.proofs.inner.undo_decision.Goals as goal
 
 pub last_word-requires : goal.last_word-requires
 last_word-requires c =
-    let s = c.before in
     record {
-      step_stands = steps-still _ s.requires.0;
+      step_stands = steps-still _ c.requires.desk_value;
       k_lt_entry_words = omega arith;
     }
 
 pub overflow_sub-last_word : goal.overflow_sub-last_word
 unfolding last_variable
-overflow_sub-last_word c =
-    let s = c.before in
-    omega (arith, c.last_word.ensures, variable-some _ s.requires.0 s.requires.1)
+overflow_sub-last_word c = omega (arith, c.last_word.ensures, variable-some _ c.requires.desk_value c.requires.desk_value_2)
 
 pub bounds-desk-5 : goal.bounds-desk-5
-bounds-desk-5 c =
-    let s = c.before in
-    omega (arith, head-fits _ s.requires.0)
+bounds-desk-5 c = omega (arith, head-fits _ c.requires.desk_value)
 
 pub bounds-desk-6 : goal.bounds-desk-6
-bounds-desk-6 c =
-    let s =
-    let back7 = c.before in
-    back7 in
-    omega (arith, head-fits _ s.pre.0)
+bounds-desk-6 c = omega (arith, head-fits _ c.requires.desk_value)
 
 pub bounds-desk-5-2 : goal.bounds-desk-5-2
-bounds-desk-5-2 c =
-    let s =
-    let back8 = c.before in
-    back8 in
-    omega (arith, head-fits _ s.pre.0)
+bounds-desk-5-2 c = omega (arith, head-fits _ c.requires.desk_value)
 
 pub bounds-desk-6-2 : goal.bounds-desk-6-2
-bounds-desk-6-2 c =
-    let s =
-    let back8 = c.before in
-    back8 in
-    simp length-set (omega (arith, head-fits _ s.pre.0))
+bounds-desk-6-2 c = simp length-set (omega (arith, head-fits _ c.requires.desk_value))
 
 pub withdraw-requires : goal.withdraw-requires
-withdraw-requires c =
-    let s =
-    let back9 = c.before in
-    back9 in
-    still-by-two _ 5 6 _ _ (λ e. omega arith) (λ e. omega arith) (λ e. omega arith) (λ e. omega arith) (steps-still _ s.pre.0)
+withdraw-requires c = still-by-two _ 5 6 _ _ (λ e. omega arith) (λ e. omega arith) (λ e. omega arith) (λ e. omega arith) (steps-still _ c.requires.desk_value)
 
 pub shape_of-desk : goal.shape_of-desk
 shape_of-desk c = ap length c.withdraw.ensures ∙ length-withdrawn _ ∙ simp length-set

@@ -34,9 +34,8 @@ bounds-desk-1 c = omega (arith, head-fits _ c.requires.desk_value)
 
 pub last_word-w-requires : goal.last_word-w-requires
 last_word-w-requires c =
-    let s = c.before in
     record {
-      step_stands = steps-still _ s.requires.0;
+      step_stands = steps-still _ c.requires.desk_value;
       k_lt_entry_words = omega arith;
     }
 

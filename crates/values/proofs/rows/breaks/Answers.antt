@@ -4,4 +4,4 @@ use Rattle.values.proofs.rows.breaks.Goals as goal
 
 pub returns : goal.returns
 unfolding breaks
-returns c = rw (c.is-hard.ensures, c.holds.ensures)
+returns c = rw (c.is_hard.ensures, c.holds.ensures)

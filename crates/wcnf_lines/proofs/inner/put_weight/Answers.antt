@@ -7,4 +7,4 @@ pub returns-in-Nothing : goal.returns-in-Nothing
 returns-in-Nothing c = rw (weight-none _ c.in-Nothing.is) stored-none
 
 pub returns-in-Reading : goal.returns-in-Reading
-returns-in-Reading c = rw (weight-some _ _ _ c.best.given.1) c.put_number_line.ensures
+returns-in-Reading c = rw (weight-some _ _ _ c.in-Reading.is) c.put_number_line.ensures

@@ -12,11 +12,11 @@ put_spaced_lits-end-requires c = (omega (arith, c.put_number-from.ensures.place,
 
 pub put_key-requires : goal.put_key-requires
 put_key-requires c =
-    let one = number-length c.line-weight.result in
+    let one = number-length c.line_weight-weight.result in
     let two = spaced-length most_variables c.args.row.lits in
-    omega (arith, c.put-spaced-lits.ensures.place, c.put-number.ensures.place)
+    omega (arith, c.put_spaced_lits-end.ensures.place, c.put_number-from.ensures.place)
 
 pub returns : goal.returns
 returns c =
-    rw (clause-is c.args.top c.args.row, ← c.line-weight.ensures)
-    (stored-both c.put-number.ensures (stored-both c.put-spaced-lits.ensures c.put_key.ensures))
+    rw (clause-is c.args.top c.args.row, ← c.line_weight-weight.ensures)
+    (stored-both c.put_number-from.ensures (stored-both c.put_spaced_lits-end.ensures c.put_key.ensures))
