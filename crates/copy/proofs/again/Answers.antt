@@ -39,7 +39,10 @@ slice_bounds-write-end c =
     simp length-take (omega (arith, fine.few, c.read.auto.1.0))
 
 pub returns-in-Refused : goal.returns-in-Refused
-returns-in-Refused c = not-read c.args.input.now c.args.output.now _ (sym c.read.ensures.answer ∙ c.in-Refused.is)
+returns-in-Refused c =
+    let told =
+      not-read c.args.input.now c.args.output.now _ (sym c.read.ensures.answer ∙ c.in-Refused.is)
+    in record { length = told.0; bytes = told.1 }
 
 pub returns-in-Table : goal.returns-in-Table
 returns-in-Table c =

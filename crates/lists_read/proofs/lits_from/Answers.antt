@@ -1,6 +1,6 @@
 use Prim.Native.Nat.{suc, ◌+◌, ◌-◌}
 use mathlib.Core.Path.{◌≡◌, ap}
-use mathlib.Core.Logic.{⊎_elim, inl, inr}
+use mathlib.Core.Logic.{inl, inr}
 use native.Mathlib.Omega.{arith}
 use Rattle.literals.specs.Literal.{most_variables}
 use Rattle.literals.specs.Lits.{no_lits}
@@ -10,6 +10,7 @@ use Rattle.text_laws.proofs.Stands.{inside}
 use Rattle.text_laws.proofs.Branches.{Parted, lits-none, lits-end, lits-unparted}
 use Rattle.lists_read.proofs.Signs.{lits-stuck, lits-grown}
 use Rattle.lists_read.proofs.lits_from.Goals as goal
+use Rattle.lists_read.proofs.lits_from.Goals.{then-last-ne0+else-b-ne32, else-last-ne0}
 
 pub loop-i-init : goal.loop-i-init
 loop-i-init c = (omega arith, ap (lits_from (suc most_variables) c.args.s.now c.args.from 0) c.none-lits.ensures)
@@ -41,10 +42,11 @@ overflow_add-at c = omega (arith, inside c.args.s.now c.loop-i.at (omega (arith,
 pub returns-in_default : goal.returns-in_default
 returns-in_default c =
     let parted : Parted c.args.s.now
-    c.loop-i.at c.loop-i.last c.if-last-ne0.at = ⊎_elim
-    (λ w. inr (w.0.taken, matched c.byte_at-b.ensures w.1.left, w.2))
-    (λ w. inl (w.0.left, w.1))
-    c.if-last-ne0.branch in
+    c.loop-i.at c.loop-i.last c.if-last-ne0.at = 
+      elim c.if-last-ne0.branch [
+          then-last-ne0+else-b-ne32 w ↦ inr (w.if-last-ne0.true, matched c.byte_at-b.ensures w.if-b-ne32.false, w.at-is)
+        | else-last-ne0 w ↦ inl (w.if-last-ne0.false, w.at-is)
+      ] in
     let turn : lits_from (suc (suc most_variables - (c.loop-i.i + 1))) c.args.s.now
     c.loop-i.at c.loop-i.last c.loop-i.lits
     ≡ lits_from (suc most_variables) c.args.s.now c.args.from 0 no_lits = let left : suc most_variables - c.loop-i.i ≡ suc (suc most_variables - (c.loop-i.i + 1)) = omega arith in
@@ -56,10 +58,11 @@ returns-in_default c =
 pub loop-i-preserved : goal.loop-i-preserved
 loop-i-preserved c =
     let parted : Parted c.args.s.now
-    c.loop-i.at c.loop-i.last c.if-last-ne0.at = ⊎_elim
-    (λ w. inr (w.0.taken, matched c.byte_at-b.ensures w.1.left, w.2))
-    (λ w. inl (w.0.left, w.1))
-    c.if-last-ne0.branch in
+    c.loop-i.at c.loop-i.last c.if-last-ne0.at = 
+      elim c.if-last-ne0.branch [
+          then-last-ne0+else-b-ne32 w ↦ inr (w.if-last-ne0.true, matched c.byte_at-b.ensures w.if-b-ne32.false, w.at-is)
+        | else-last-ne0 w ↦ inl (w.if-last-ne0.false, w.at-is)
+      ] in
     let turn : lits_from (suc (suc most_variables - (c.loop-i.i + 1))) c.args.s.now
     c.loop-i.at c.loop-i.last c.loop-i.lits
     ≡ lits_from (suc most_variables) c.args.s.now c.args.from 0 no_lits = let left : suc most_variables - c.loop-i.i ≡ suc (suc most_variables - (c.loop-i.i + 1)) = omega arith in

@@ -2,4 +2,7 @@
 use Rattle.reader.proofs.read.Goals as goal
 
 pub returns : goal.returns
-returns c = c.read_up_to.ensures
+returns c =
+    let told =
+      c.read_up_to.ensures
+    in record { answer = told.0; words = told.1 }

@@ -35,7 +35,7 @@ returns-then-bad_last c =
       ap not (sym c.well_formed-2.ensures)
           ∙ c.if-not-well_formed.false-raw,
       ne_eqb (standing _) 0
-          (λ e. c.before.before.if2.false (c.word.ensures ∙ e)),
+          (λ e. c.if-word-eq0.false (c.word.ensures ∙ e)),
       sym c.bad_last.ensures ∙ c.if-bad_last.true,
     )
 
@@ -46,6 +46,6 @@ returns c =
       ap not (sym c.well_formed-2.ensures)
           ∙ c.if-not-well_formed.false-raw,
       ne_eqb (standing _) 0
-          (λ e. c.before.before.if2.false (c.word.ensures ∙ e)),
+          (λ e. c.if-word-eq0.false (c.word.ensures ∙ e)),
       sym c.bad_last.ensures ∙ c.if-bad_last.false,
     )

@@ -29,12 +29,12 @@ pub overflow_add-result : goal.overflow_add-result
 unfolding row_count
 overflow_add-result c =
     let all : c.loop-i.i ≡ row_count c.args.table.now = omega arith in
-    let light = subst (λ (k : ℕ). l.weights ≡ sum k (λ j. (row_of c.args.table.now j).weight)) all c.loop-i.invariant.1 in
+    let light = subst (λ (k : ℕ). c.loop-i.weights ≡ sum k (λ j. (row_of c.args.table.now j).weight)) all c.loop-i.invariant.1 in
     omega (arith, light, c.requires)
 
 pub returns : goal.returns
 unfolding top_of row_count
 returns c =
     let all : c.loop-i.i ≡ row_count c.args.table.now = omega arith in
-    let weights = subst (λ (k : ℕ). l.weights ≡ sum k (λ j. (row_of c.args.table.now j).weight)) all c.loop-i.invariant.1 in
+    let weights = subst (λ (k : ℕ). c.loop-i.weights ≡ sum k (λ j. (row_of c.args.table.now j).weight)) all c.loop-i.invariant.1 in
     ap (λ (w : ℕ). w + 1) weights

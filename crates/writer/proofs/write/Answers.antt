@@ -12,18 +12,22 @@ put_table-n-requires c = (table-fine _ _ (matched c.table_why.ensures c.in-Fine.
 
 pub returns-then-out-n : goal.returns-then-out-n
 returns-then-out-n c =
-    let long = c.put_table-n.ensures.place ∙ zero-add _ in
-    text-no-room _ _ _
-    (matched c.table_why.ensures c.in-Fine.is)
-    (rw long at c.if-out-n.true)
+    let told =
+      let long = c.put_table-n.ensures.place ∙ zero-add _ in
+      text-no-room _ _ _
+      (matched c.table_why.ensures c.in-Fine.is)
+      (rw long at c.if-out-n.true)
+    in record { answer = told.0; bytes = told.1 }
 
 pub put_table-requires : goal.put_table-requires
 put_table-requires c = (table-fine _ _ (matched c.table_why.ensures c.in-Fine.is)).few
 
 pub returns-in-Refused : goal.returns-in-Refused
 returns-in-Refused c =
-    text-refused _ _ _ _
-    (matched c.table_why.ensures c.in-Refused.is)
+    let told =
+      text-refused _ _ _ _
+      (matched c.table_why.ensures c.in-Refused.is)
+    in record { answer = told.0; bytes = told.1 }
 
 pub returns-else-out-n : goal.returns-else-out-n
 returns-else-out-n c =

@@ -39,7 +39,7 @@ add_row-lost-requires c =
 
 pub loop-i-preserved : goal.loop-i-preserved
 loop-i-preserved c =
-    let lost-more : c.add_row-lost.result ≡ c.loop-i.lost + weight_where is_empty c.args.p (charged_row c.args.charge (row_on c.args.desk.now (c.args.from + c.loop-i.i))) = let added : Row → ℕ = λ r. t.loop.lost + weight_where is_empty c.args.p (charged_row c.args.charge r) in
+    let lost-more : c.add_row-lost.result ≡ c.loop-i.lost + weight_where is_empty c.args.p (charged_row c.args.charge (row_on c.args.desk.now (c.args.from + c.loop-i.i))) = let added : Row → ℕ = λ r. c.loop-i.lost + weight_where is_empty c.args.p (charged_row c.args.charge r) in
     ◌∙◌ {b = added c.row_on-row.result} c.add_row-lost.ensures.value (ap added c.row_on-row.ensures) in
     let at : ℕ = c.args.from + c.loop-i.i in
     let e : at + 1 ≡ c.args.from + (c.loop-i.i + 1) = omega arith in

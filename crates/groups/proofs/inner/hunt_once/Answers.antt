@@ -12,13 +12,15 @@ hunt-t-requires c =
 
 pub gather-g-requires : goal.gather-g-requires
 gather-g-requires c =
-    (
-      c.requires.lying,
+    let told =
       (
-        (c.hunt-t.ensures.roomy.lent, c.requires.grouped),
-        traced c.args.desk.now c.args.p c.args.weights.now _ _ _ c.hunt-t.ensures.rows_after c.hunt-t.ensures.roomy c.if-t-ne0.true,
-      ),
-    )
+        c.requires.lying,
+        (
+          (c.hunt-t.ensures.roomy.lent, c.requires.grouped),
+          traced c.args.desk.now c.args.p c.args.weights.now _ _ _ c.hunt-t.ensures.rows_after c.hunt-t.ensures.roomy c.if-t-ne0.true,
+        ),
+      )
+    in record { lying = told.0; lent = told.1; traced = told.2 }
 
 pub take-requires : goal.take-requires
 take-requires c =

@@ -32,7 +32,7 @@ returns c =
     record {
       rows_after = entry-scan _ _ _ _ c.args.k c.args.start c.args.masks.now c.args.rows.now c.requires.k_lt_entries.0 _
           (against-one (get_or c.args.masks.now c.args.k 0) c.args.start.q.truths (omega (arith, c.slice_known-1.given c.args.k))
-          (c.requires.roomy.single c.args.k c.requires.k_lt_entries.0) (λ z. way.if1.false (c.without.ensures ∙ z)))
+          (c.requires.roomy.single c.args.k c.requires.k_lt_entries.0) (λ z. c.if-without-eq0.false (c.without.ensures ∙ z)))
           c.literal_scan.ensures.rows_after;
       roomy_2 = c.literal_scan.ensures.roomy_2;
     }

@@ -19,4 +19,4 @@ returns-then-v-eq0 c = rw (eq-eqb _ 0 (sym c.last_word-v.ensures ∙ c.if-v-eq0.
 
 pub returns : goal.returns
 unfolding bad_decision last_variable
-returns c = rw (ne_eqb _ 0 (λ e. c.before.before.if1.false (c.last_word-v.ensures ∙ e)), c.has.ensures, c.word.ensures, c.last_word-v.ensures)
+returns c = rw (ne_eqb _ 0 (λ e. c.if-v-eq0.false (c.last_word-v.ensures ∙ e)), c.has.ensures, c.word.ensures, c.last_word-v.ensures)

@@ -27,11 +27,13 @@ returns-then-kind-eq0 c =
 
 pub bad_rewriting-requires : goal.bad_rewriting-requires
 bad_rewriting-requires c =
-    let k = c.last_word-kind.ensures ∙ kind-word c.args.desk.now in
-    (c.requires, (omega (arith, k, c.if-kind-eq0.false), omega (arith, k)))
+    let told =
+      let k = c.last_word-kind.ensures ∙ kind-word c.args.desk.now in
+      (c.requires, (omega (arith, k, c.if-kind-eq0.false), omega (arith, k)))
+    in record { stands = told.0; bound = told.1; desk_bound = told.2 }
 
 pub returns : goal.returns
 unfolding bad_last
 returns c =
     let k = c.last_word-kind.ensures ∙ kind-word c.args.desk.now in
-    rw (le-ltb 4 (last_kind c.args.desk.now) (omega (arith, k)), ne_eqb (last_kind c.args.desk.now) 0 (λ e. c.before.if2.false (k ∙ e))) c.bad_rewriting.ensures
+    rw (le-ltb 4 (last_kind c.args.desk.now) (omega (arith, k)), ne_eqb (last_kind c.args.desk.now) 0 (λ e. c.if-kind-eq0.false (k ∙ e))) c.bad_rewriting.ensures

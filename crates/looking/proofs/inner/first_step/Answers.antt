@@ -17,7 +17,7 @@ pub returns-then-count-ne1 : goal.returns-then-count-ne1
 returns-then-count-ne1 c =
     record {
       rows_after = step-failed c.args.desk.now c.args.weights.now (left_one c.args.p) c.args.i (hunt_of c.args.t c.args.masks.now c.args.rows.now) _ c.row_on-row.ensures
-          (sym (ap is_one c.remnant-rest.ensures) ∙ ones_none c.remnant-rest.result (search rules) (λ e. c.if1.true (c.count.ensures ∙ e)));
+          (sym (ap is_one c.remnant-rest.ensures) ∙ ones_none c.remnant-rest.result (search rules) (λ e. c.if-count-ne1.true (c.count.ensures ∙ e)));
       roomy_2 = c.requires.roomy;
     }
 

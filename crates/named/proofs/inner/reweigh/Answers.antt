@@ -27,7 +27,10 @@ changed-requires c =
     ∙ ap (λ (e : List ℕ). (row_on e (row c.args.named.now c.loop-i.i)).weight) c.loop-i.invariant.1
     ∙ weight-yet (new_weight c.args.w c.args.regain) (row c.args.named.now) c.args.desk.now (length c.args.named.now) c.loop-i.i
     c.requires.apart (omega arith) in
-    rw old (c.requires.fits c.loop-i.i (omega arith), c.requires.holds c.loop-i.i (omega arith))
+    record {
+      weight_bound = rw old (c.requires.fits c.loop-i.i (omega arith));
+      w_bound = rw old (c.requires.holds c.loop-i.i (omega arith));
+    }
 
 pub set_weight-requires : goal.set_weight-requires
 set_weight-requires c = omega (arith, c.requires.inside c.loop-i.i (omega arith))
@@ -39,14 +42,14 @@ loop-i-preserved c =
     let g = reweighed f (row c.args.named.now) c.args.desk.now c.loop-i.i in
     let w : c.changed.result ≡ f (row_on g k).weight =
     c.changed.ensures
-    ∙ ap f (ap (λ (x : Row). x.weight) c.row_on-weight.ensures ∙ ap (λ (x : List ℕ). (row_on x k).weight) c.loop-i.inv.1) in (
+    ∙ ap f (ap (λ (x : Row). x.weight) c.row_on-weight.ensures ∙ ap (λ (x : List ℕ). (row_on x k).weight) c.loop-i.invariant.1) in (
       omega arith,
-      c.set_weight.ensures ∙ ap (λ (x : List ℕ). set_weight x k c.changed.result) c.loop-i.inv.1 ∙ ap (set_weight g k) w
+      c.set_weight.ensures ∙ ap (λ (x : List ℕ). set_weight x k c.changed.result) c.loop-i.invariant.1 ∙ ap (set_weight g k) w
           ∙ sym (reweighed-more f (row c.args.named.now) c.args.desk.now c.loop-i.i),
-      ap length c.set_weight.ensures ∙ length-set-weight _ _ _ ∙ c.loop-i.inv.2,
+      ap length c.set_weight.ensures ∙ length-set-weight _ _ _ ∙ c.loop-i.invariant.2,
     )
 
 pub returns : goal.returns
 returns c =
     let e : c.loop-i.i ≡ length c.args.named.now = omega arith in
-    subst (λ (k : ℕ). l.desk ≡ reweighed (new_weight c.args.w c.args.regain) (row c.args.named.now) c.args.desk.now k) e c.loop-i.invariant.1
+    subst (λ (k : ℕ). c.loop-i.desk ≡ reweighed (new_weight c.args.w c.args.regain) (row c.args.named.now) c.args.desk.now k) e c.loop-i.invariant.1

@@ -17,8 +17,8 @@ invariant-loop-i l = (l.i ≤ l.j) × (l.j < length l.named) × (l.found ≡ fal
 abbrev pub decreases-loop-i : goal.decreases-loop-i
 decreases-loop-i l = l.j - l.i
 
-abbrev pub invariant-loop-i : goal.invariant-loop-i
-invariant-loop-i l = (l.found ≤ length l.named) × (l.initial.i ≡ false) × (every l.found (λ b. every b (fresh (row l.named) b)) ≡ true)
+abbrev pub invariant-pairs : goal.invariant-pairs
+invariant-pairs l = (l.j ≤ length l.named) × (l.found ≡ false) × (every l.j (λ b. every b (fresh (row l.named) b)) ≡ true)
 
-abbrev pub decreases-loop-i : goal.decreases-loop-i
-decreases-loop-i l = length l.named - l.found
+abbrev pub decreases-pairs : goal.decreases-pairs
+decreases-pairs l = length l.named - l.j

@@ -5,9 +5,14 @@ use Rattle.reader.proofs.Rest.{behind-read}
 use Rattle.reader.proofs.inner.read_up_to.Goals as goal
 
 pub returns-in-Broken : goal.returns-in-Broken
-returns-in-Broken c = read-broken c.args.most c.args.s.now c.args.table.now _ (matched c.head_at.ensures c.in-Broken.is)
+returns-in-Broken c =
+    let told =
+      read-broken c.args.most c.args.s.now c.args.table.now _ (matched c.head_at.ensures c.in-Broken.is)
+    in record { answer = told.0; words = told.1 }
 
 pub returns-in-Lines : goal.returns-in-Lines
 returns-in-Lines c =
-    behind-read c.args.most c.args.s.now c.args.table.now _ _ _ _ _ _ _ c.head_at.ensures c.in-Lines.is
-    c.read_rest.ensures
+    let told =
+      behind-read c.args.most c.args.s.now c.args.table.now _ _ _ _ _ _ _ c.head_at.ensures c.in-Lines.is
+      c.read_rest.ensures
+    in record { answer = told.0; words = told.1 }

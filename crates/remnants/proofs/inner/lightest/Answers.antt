@@ -1,6 +1,5 @@
 use Prim.Native.Nat.{ℕ, ◌+◌, ◌-◌, min}
 use mathlib.Core.Path.{◌≡◌, sym, ap, ◌∙◌, subst}
-use mathlib.Core.Logic.{⊎_elim}
 use mathlib.Core.List.{List}
 use native.Mathlib.Omega.{arith}
 use lib.ListN.{length, get_or}
@@ -10,6 +9,7 @@ use Rattle.rules.specs.declared.Row.{Row}
 use Rattle.rules.specs.Desk.{row_on}
 use Rattle.rules.specs.Rewrite.{lightest}
 use Rattle.remnants.proofs.inner.lightest.Goals as goal
+use Rattle.remnants.proofs.inner.lightest.Goals.{then-w-least, else-w-least}
 
 abbrev weights : List ℕ → List ℕ → ℕ → ℕ
 weights desk named i = (row_on desk (get_or named i 0)).weight
@@ -31,7 +31,11 @@ loop-i-preserved c =
     let m : smallest c.loop-i.i f ≡ min (smallest (c.loop-i.i - 1) f) (f c.loop-i.i) =
     subst (λ (k : ℕ). smallest k f ≡ min (smallest (c.loop-i.i - 1) f) (f k)) i (smallest-more (c.loop-i.i - 1) f) in
     let n : c.loop-i.i + 1 - 1 ≡ c.loop-i.i = omega arith in
-    (omega arith, omega arith, rw n (⊎_elim (λ w. omega (arith, m, e, c.loop-i.invariant.2, w)) (λ w. omega (arith, m, e, c.loop-i.invariant.2, w)) c.if-w-least.branch))
+    (omega arith, omega arith, rw n
+      (elim c.if-w-least.branch [
+          then-w-least w ↦ omega (arith, m, e, c.loop-i.invariant.2)
+        | else-w-least w ↦ omega (arith, m, e, c.loop-i.invariant.2)
+      ]))
 
 pub returns : goal.returns
 unfolding lightest

@@ -30,5 +30,5 @@ loop-i-preserved c =
 pub returns : goal.returns
 returns c =
     let e : c.loop-i.i ≡ c.args.n = omega arith in
-    let i = subst (λ (k : ℕ). l.left + (c.args.start + sum k (weights c.args.words.now c.args.from)) ≡ most_weight) e c.loop-i.invariant.1 in
+    let i = subst (λ (k : ℕ). c.loop-i.left + (c.args.start + sum k (weights c.args.words.now c.args.from)) ≡ most_weight) e c.loop-i.invariant.1 in
     sym (never-over most_weight c.args.start (weights c.args.words.now c.args.from) c.args.n c.loop-i.left i)

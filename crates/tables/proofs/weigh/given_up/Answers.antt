@@ -28,4 +28,4 @@ loop-i-preserved c =
 pub returns : goal.returns
 returns c =
     let e : c.loop-i.i ≡ c.args.n = omega arith in
-    subst (λ (k : ℕ). l.weight ≡ sum k (λ j. given_up (row_of c.args.table.now j) c.args.reading)) e c.loop-i.invariant.1
+    subst (λ (k : ℕ). c.loop-i.weight ≡ sum k (λ j. given_up (row_of c.args.table.now j) c.args.reading)) e c.loop-i.invariant.1

@@ -40,4 +40,4 @@ pub returns : goal.returns
 unfolding take_back_step
 returns c =
     let k = c.last_word.ensures ∙ kind-word c.args.desk.now in
-    rw (ne_eqb (last_kind c.args.desk.now) 0 (λ e. c.before.before.before.before.if1.false (k ∙ e))) c.undo_rewriting.ensures
+    rw (ne_eqb (last_kind c.args.desk.now) 0 (λ e. c.if-last_word-eq0.false (k ∙ e))) c.undo_rewriting.ensures

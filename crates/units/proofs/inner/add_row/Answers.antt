@@ -34,7 +34,7 @@ returns-then-some-eq0 c =
     (c.with_weight-charged.ensures ∙ ap (λ (w : ℕ). with_weight c.args.row (c.args.row.weight + w)) c.charge_on.ensures) in
     let l = left in
     record {
-      value = ap (λ (w : ℕ). a.lost + w) (empty-lost (left-charged c.args.charge l) _ weight-charged c.if-some-eq0.true);
+      value = ap (λ (w : ℕ). c.args.lost + w) (empty-lost (left-charged c.args.charge l) _ weight-charged c.if-some-eq0.true);
       grown = empty-gather l _ c.if-some-eq0.true;
     }
 

@@ -10,8 +10,10 @@ store_rows-requires c =
 
 pub returns-in-Refused : goal.returns-in-Refused
 returns-in-Refused c =
-    behind-refused c.args.most c.args.s.now c.args.table.now c.args.variables c.args.clauses c.args.top c.args.from c.args.line _
-    c.figures_why.ensures _ c.in-Refused.is
+    let told =
+      behind-refused c.args.most c.args.s.now c.args.table.now c.args.variables c.args.clauses c.args.top c.args.from c.args.line _
+      c.figures_why.ensures _ c.in-Refused.is
+    in record { answer = told.0; words = told.1 }
 
 pub returns-in-Fine : goal.returns-in-Fine
 returns-in-Fine c =

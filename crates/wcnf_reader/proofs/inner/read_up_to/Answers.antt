@@ -7,9 +7,14 @@ pub read_rest-requires : goal.read_rest-requires
 read_rest-requires c = (c.requires, head-line c.args.s.now _ _ _ _ _ (matched c.header_of.ensures c.in-Figures.is))
 
 pub returns-in-Broken : goal.returns-in-Broken
-returns-in-Broken c = read-broken c.args.most c.args.s.now c.args.table.now _ (matched c.header_of.ensures c.in-Broken.is)
+returns-in-Broken c =
+    let told =
+      read-broken c.args.most c.args.s.now c.args.table.now _ (matched c.header_of.ensures c.in-Broken.is)
+    in record { answer = told.0; words = told.1 }
 
 pub returns-in-Figures : goal.returns-in-Figures
 returns-in-Figures c =
-    behind-read c.args.most c.args.s.now c.args.table.now _ _ _ _ _ (matched c.header_of.ensures c.in-Figures.is) _ _
-    c.read_rest.ensures
+    let told =
+      behind-read c.args.most c.args.s.now c.args.table.now _ _ _ _ _ (matched c.header_of.ensures c.in-Figures.is) _ _
+      c.read_rest.ensures
+    in record { answer = told.0; words = told.1 }

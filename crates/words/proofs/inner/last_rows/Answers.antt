@@ -19,4 +19,4 @@ loop-i-preserved c =
 
 pub returns : goal.returns
 unfolding last_named last_place entry_place row_place
-returns c = λ k h. l.invariant.2 k (omega arith)
+returns c = λ k h. c.loop-i.invariant.2 k (omega arith)

@@ -12,11 +12,11 @@ loop-i-init c = (omega arith, refl, refl)
 
 pub loop-i-preserved : goal.loop-i-preserved
 loop-i-preserved c =
-    let n : length c.args.t3 ≡ entry_words = omega arith in
-    (omega arith, rw c.loop-i.invariant.1 (copied_more c.args.desk.now c.args.t3 c.args.at c.loop-i.i (omega arith)), simp length-set (omega arith))
+    let n : length c.args.entry ≡ entry_words = omega arith in
+    (omega arith, rw c.loop-i.invariant.1 (copied_more c.args.desk.now c.args.entry c.args.at c.loop-i.i (omega arith)), simp length-set (omega arith))
 
 pub returns : goal.returns
 returns c =
-    let n : length c.args.t3 ≡ entry_words = omega arith in
-    let e : c.loop-i.i ≡ length c.args.t3 = omega arith in
-    c.loop-i.invariant.1 ∙ ap (sets c.args.desk.now c.args.at) (ap (λ (k : ℕ). take k c.args.t3) e ∙ take-length c.args.t3)
+    let n : length c.args.entry ≡ entry_words = omega arith in
+    let e : c.loop-i.i ≡ length c.args.entry = omega arith in
+    c.loop-i.invariant.1 ∙ ap (sets c.args.desk.now c.args.at) (ap (λ (k : ℕ). take k c.args.entry) e ∙ take-length c.args.entry)
