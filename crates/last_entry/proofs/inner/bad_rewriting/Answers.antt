@@ -202,21 +202,16 @@ none_hard-requires c =
     let named-holds : named_well c.args.desk.now
     (last_count c.args.desk.now)
     (last_first c.args.desk.now) ≡ true = sym named-told ∙ not-false _ c.if-not-rows_named.false-raw in
-    let told =
-      let a = count-holds in
-      let g = added-holds in
-      let n = count_word in
-      let first = first-told in (
-        c.requires.stands,
-        (
-          omega (arith, n, few c.args.desk.now c.requires.bound c.requires.desk_bound a),
-          (
-            omega (arith, first, first_fits c.args.desk.now c.requires.bound c.requires.desk_bound a g),
-            rw (n, first) named-holds,
-          ),
-        ),
-      )
-    in record { stands = told.0; n_le_most_named = told.1; first_bound = told.2; first_value = told.3 }
+    let a = count-holds in
+    let g = added-holds in
+    let n = count_word in
+    let first = first-told in
+    record {
+      stands = c.requires.stands;
+      n_le_most_named = omega (arith, n, few c.args.desk.now c.requires.bound c.requires.desk_bound a);
+      first_bound = omega (arith, first, first_fits c.args.desk.now c.requires.bound c.requires.desk_bound a g);
+      first_value = rw (n, first) named-holds;
+    }
 
 pub returns-then-not-none_hard : goal.returns-then-not-none_hard
 unfolding last_count
