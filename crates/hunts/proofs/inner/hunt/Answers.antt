@@ -11,10 +11,7 @@ use Rattle.hunts.proofs.Draining.{Drained, drain-none, drain-more, drain-done, d
 use Rattle.hunts.proofs.inner.hunt.Goals as goal
 
 pub first_scan-t-requires : goal.first_scan-t-requires
-first_scan-t-requires c =
-    let told =
-      c.requires
-    in record { lying = told.0; lent = told.1 }
+first_scan-t-requires c = c.requires
 
 pub loop-k-init : goal.loop-k-init
 loop-k-init c p e = drain-none _ _ _ _ _ _ _ _ e c.first_scan-t.ensures.roomy

@@ -252,8 +252,7 @@ returns-then-not-none_hard c =
     added-holds repaid (sym soft-told ∙ not-true _ c.if-not-none_hard.true-raw))
 
 pub too_heavy-requires : goal.too_heavy-requires
-unfolding weight_on
-unfolding last_count
+unfolding weight_on last_count
 too_heavy-requires c =
     let count_word : c.last_word-n.result ≡ last_count c.args.desk.now = c.last_word-n.ensures in
     let kind-told : c.last_word-kind.result ≡ last_kind c.args.desk.now = c.last_word-kind.ensures ∙ kind-word c.args.desk.now in
@@ -293,8 +292,7 @@ too_heavy-requires c =
     }
 
 pub returns : goal.returns
-unfolding over_after
-unfolding last_count
+unfolding over_after last_count
 returns c =
     let kind-told : c.last_word-kind.result ≡ last_kind c.args.desk.now = c.last_word-kind.ensures ∙ kind-word c.args.desk.now in
     let count_word : c.last_word-n.result ≡ last_count c.args.desk.now = c.last_word-n.ensures in
