@@ -9,14 +9,18 @@ tell-requires c = as-small (sym (ap by_written (sym c.answer.ensures.answer ∙ 
 
 pub returns-in-Refused : goal.returns-in-Refused
 returns-in-Refused c =
-    let told =
-      let e = sym c.answer.ensures.answer ∙ c.in-Refused.is in
-      (c.tell.ensures ∙ sym (ap (λ x. told (by_written x)) e), (c.answer.ensures.bytes, sym (ap (λ x. length_out x c.args.bytes.now) e)))
-    in record { answer = told.0; words = told.1; lent = told.2 }
+    let e = sym c.answer.ensures.answer ∙ c.in-Refused.is in
+    record {
+      answer = c.tell.ensures ∙ sym (ap (λ x. told (by_written x)) e);
+      words = c.answer.ensures.bytes;
+      lent = sym (ap (λ x. length_out x c.args.bytes.now) e);
+    }
 
 pub returns-in-Bytes : goal.returns-in-Bytes
 returns-in-Bytes c =
-    let told =
-      let e = sym c.answer.ensures.answer ∙ c.in-Bytes.is in
-      (sym (ap (λ x. told (by_written x)) e), (c.answer.ensures.bytes, sym (ap (λ x. length_out x c.args.bytes.now) e)))
-    in record { answer = told.0; words = told.1; lent = told.2 }
+    let e = sym c.answer.ensures.answer ∙ c.in-Bytes.is in
+    record {
+      answer = sym (ap (λ x. told (by_written x)) e);
+      words = c.answer.ensures.bytes;
+      lent = sym (ap (λ x. length_out x c.args.bytes.now) e);
+    }

@@ -10,14 +10,18 @@ tell-requires c = as-small (sym (ap by_text_read (sym c.read.ensures.answer ∙ 
 
 pub returns-in-Refused : goal.returns-in-Refused
 returns-in-Refused c =
-    let told =
-      let e = sym c.read.ensures.answer ∙ c.in-Refused.is in
-      (c.tell.ensures ∙ sym (ap (λ x. told (by_text_read x)) e), (c.read.ensures.words, sym (ap (λ x. head_out x c.args.head.now) e)))
-    in record { answer = told.0; words = told.1; lent = told.2 }
+    let e = sym c.read.ensures.answer ∙ c.in-Refused.is in
+    record {
+      answer = c.tell.ensures ∙ sym (ap (λ x. told (by_text_read x)) e);
+      words = c.read.ensures.words;
+      lent = sym (ap (λ x. head_out x c.args.head.now) e);
+    }
 
 pub returns-in-Table : goal.returns-in-Table
 returns-in-Table c =
-    let told =
-      let e = sym c.read.ensures.answer ∙ c.in-Table.is in
-      (sym (ap (λ x. told (by_text_read x)) e), (c.read.ensures.words, sym (ap (λ x. head_out x c.args.head.now) e)))
-    in record { answer = told.0; words = told.1; lent = told.2 }
+    let e = sym c.read.ensures.answer ∙ c.in-Table.is in
+    record {
+      answer = sym (ap (λ x. told (by_text_read x)) e);
+      words = c.read.ensures.words;
+      lent = sym (ap (λ x. head_out x c.args.head.now) e);
+    }

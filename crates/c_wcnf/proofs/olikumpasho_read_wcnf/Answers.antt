@@ -5,14 +5,18 @@ use Rattle.c_wcnf.proofs.olikumpasho_read_wcnf.Goals as goal
 
 pub returns-in-Refused : goal.returns-in-Refused
 returns-in-Refused c =
-    let told =
-      let e = sym c.read_wcnf.ensures.answer ∙ c.in-Refused.is in
-      (c.tell_near.ensures ∙ sym (ap (λ x. told_near (by_wcnf_read x)) e), (c.read_wcnf.ensures.words, sym (ap (λ x. figures_out x c.args.head.now) e)))
-    in record { answer = told.0; words = told.1; lent = told.2 }
+    let e = sym c.read_wcnf.ensures.answer ∙ c.in-Refused.is in
+    record {
+      answer = c.tell_near.ensures ∙ sym (ap (λ x. told_near (by_wcnf_read x)) e);
+      words = c.read_wcnf.ensures.words;
+      lent = sym (ap (λ x. figures_out x c.args.head.now) e);
+    }
 
 pub returns-in-Table : goal.returns-in-Table
 returns-in-Table c =
-    let told =
-      let e = sym c.read_wcnf.ensures.answer ∙ c.in-Table.is in
-      (sym (ap (λ x. told_near (by_wcnf_read x)) e), (c.read_wcnf.ensures.words, sym (ap (λ x. figures_out x c.args.head.now) e)))
-    in record { answer = told.0; words = told.1; lent = told.2 }
+    let e = sym c.read_wcnf.ensures.answer ∙ c.in-Table.is in
+    record {
+      answer = sym (ap (λ x. told_near (by_wcnf_read x)) e);
+      words = c.read_wcnf.ensures.words;
+      lent = sym (ap (λ x. figures_out x c.args.head.now) e);
+    }

@@ -2,7 +2,4 @@
 use Rattle.reader.proofs.read.Goals as goal
 
 pub returns : goal.returns
-returns c =
-    let told =
-      c.read_up_to.ensures
-    in record { answer = told.0; words = told.1 }
+returns c = c.read_up_to.ensures

@@ -12,8 +12,7 @@ pub loop-i-init : goal.loop-i-init
 loop-i-init c = (omega arith, sym (sum-empty _))
 
 pub overflow_add-weights : goal.overflow_add-weights
-unfolding row_count
-unfolding row_of
+unfolding row_count row_of
 overflow_add-weights c =
     let gave : c.row_in-row.result.weight ≡ (row_of c.args.table.now c.loop-i.i).weight = ap (λ (r : Row). r.weight) c.row_in-row.ensures in
     let w : ℕ → ℕ = λ k. (row_of c.args.table.now k).weight in

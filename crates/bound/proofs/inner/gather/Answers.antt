@@ -12,18 +12,24 @@ loop-i-init c = (omega arith, sym (sum-empty _), c.requires.gathered)
 
 pub gather_next-lost-requires : goal.gather_next-lost-requires
 gather_next-lost-requires c =
-    let told =
-      (c.requires.readable, (omega (arith, c.word-n.ensures), (c.loop-i.invariant.1, c.loop-i.invariant.2)))
-    in record { readable = told.0; count_bound = told.1; base_value = told.2; gathered = told.3 }
+    record {
+      readable = c.requires.readable;
+      count_bound = omega (arith, c.word-n.ensures);
+      base_value = c.loop-i.invariant.1;
+      gathered = c.loop-i.invariant.2;
+    }
 
 pub loop-i-preserved : goal.loop-i-preserved
 loop-i-preserved c = (omega arith, c.gather_next-lost.ensures.value, c.gather_next-lost.ensures.gathered_2)
 
 pub gather_next-requires : goal.gather_next-requires
 gather_next-requires c =
-    let told =
-      (c.requires.readable, (omega (arith, c.word-n.ensures), (c.loop-i.invariant.1, c.loop-i.invariant.2)))
-    in record { readable = told.0; count_bound = told.1; base_value = told.2; gathered = told.3 }
+    record {
+      readable = c.requires.readable;
+      count_bound = omega (arith, c.word-n.ensures);
+      base_value = c.loop-i.invariant.1;
+      gathered = c.loop-i.invariant.2;
+    }
 
 pub returns : goal.returns
 returns c =

@@ -11,6 +11,10 @@ use native.Mathlib.Omega.{arith}
 use Rattle.rules.specs.Desk.{desk_words, row_place}
 use Rattle.desk.proofs.lay.lay.Goals as goal
 
+pub lay_head-requires : goal.lay_head-requires
+unfolding desk_words row_place
+lay_head-requires c = omega arith
+
 pub copy-requires : goal.copy-requires
 unfolding desk_words row_place
 copy-requires c = omega (arith, simp length-sets at (ap length c.lay_head.ensures))

@@ -16,12 +16,14 @@ returns-in_default c =
 
 pub lay-requires : goal.lay-requires
 lay-requires c =
-    let told =
-      let room =
-      load-room c.args.variables c.args.table.now c.args.capacity c.args.desk.now
-      (sym c.load_why-why.ensures ∙ c.in-Fine.is) in
-      (room.0, (room.1, room.2))
-    in record { capacity_le_most_capacity = told.0; table_len_bound = told.1; capacity_in_bounds = told.2 }
+    let room =
+    load-room c.args.variables c.args.table.now c.args.capacity c.args.desk.now
+    (sym c.load_why-why.ensures ∙ c.in-Fine.is) in
+    record {
+      capacity_le_most_capacity = room.0;
+      table_len_bound = room.1;
+      capacity_in_bounds = room.2;
+    }
 
 pub returns : goal.returns
 unfolding load_desk

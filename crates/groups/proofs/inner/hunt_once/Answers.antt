@@ -12,15 +12,11 @@ hunt-t-requires c =
 
 pub gather-g-requires : goal.gather-g-requires
 gather-g-requires c =
-    let told =
-      (
-        c.requires.lying,
-        (
-          (c.hunt-t.ensures.roomy.lent, c.requires.grouped),
-          traced c.args.desk.now c.args.p c.args.weights.now _ _ _ c.hunt-t.ensures.rows_after c.hunt-t.ensures.roomy c.if-t-ne0.true,
-        ),
-      )
-    in record { lying = told.0; lent = told.1; traced = told.2 }
+    record {
+      lying = c.requires.lying;
+      lent = (c.hunt-t.ensures.roomy.lent, c.requires.grouped);
+      traced = traced c.args.desk.now c.args.p c.args.weights.now _ _ _ c.hunt-t.ensures.rows_after c.hunt-t.ensures.roomy c.if-t-ne0.true;
+    }
 
 pub take-requires : goal.take-requires
 take-requires c =

@@ -11,10 +11,7 @@ use Rattle.hunts.proofs.Draining.{Drained, drain-none, drain-more, drain-done, d
 use Rattle.hunts.proofs.inner.hunt.Goals as goal
 
 pub first_scan-t-requires : goal.first_scan-t-requires
-first_scan-t-requires c =
-    let told =
-      c.requires
-    in record { lying = told.0; lent = told.1 }
+first_scan-t-requires c = c.requires
 
 pub loop-k-init : goal.loop-k-init
 loop-k-init c p e = drain-none _ _ _ _ _ _ _ _ e c.first_scan-t.ensures.roomy
@@ -44,12 +41,12 @@ pub entry_scan-t-requires : goal.entry_scan-t-requires
 entry_scan-t-requires c =
     let so : Drained (lits_on c.args.desk.now) (weights_in c.args.weights.now) (in_use c.args.desk.now) c.args.p
     c.word-n.result c.loop-k.k c.loop-k.t c.loop-k.masks c.loop-k.rows = c.loop-k.invariant _ c.first_scan-t.ensures.rows_after in
-    let told =
-      let ways = or-none _ _ c.if-t-k.false in (
-        c.requires.lying,
-        (so.roomy, (leb-false _ _ ways.1, unfound c.loop-k.t ways.0)),
-      )
-    in record { lying = told.0; roomy = told.1; k_lt_entries = told.2 }
+    let ways = or-none _ _ c.if-t-k.false in
+    record {
+      lying = c.requires.lying;
+      roomy = so.roomy;
+      k_lt_entries = (leb-false _ _ ways.1, unfound c.loop-k.t ways.0);
+    }
 
 pub loop-k-preserved : goal.loop-k-preserved
 loop-k-preserved c p e = drain-more _ _ _ _ _ (c.loop-k.invariant p e) (omega arith) _ _ _ c.entry_scan-t.ensures.rows_after c.entry_scan-t.ensures.roomy_2

@@ -27,10 +27,12 @@ returns-then-kind-eq0 c =
 
 pub bad_rewriting-requires : goal.bad_rewriting-requires
 bad_rewriting-requires c =
-    let told =
-      let k = c.last_word-kind.ensures ∙ kind-word c.args.desk.now in
-      (c.requires, (omega (arith, k, c.if-kind-eq0.false), omega (arith, k)))
-    in record { stands = told.0; bound = told.1; desk_bound = told.2 }
+    let k = c.last_word-kind.ensures ∙ kind-word c.args.desk.now in
+    record {
+      stands = c.requires;
+      bound = omega (arith, k, c.if-kind-eq0.false);
+      desk_bound = omega (arith, k);
+    }
 
 pub returns : goal.returns
 unfolding bad_last

@@ -202,21 +202,16 @@ none_hard-requires c =
     let named-holds : named_well c.args.desk.now
     (last_count c.args.desk.now)
     (last_first c.args.desk.now) ≡ true = sym named-told ∙ not-false _ c.if-not-rows_named.false-raw in
-    let told =
-      let a = count-holds in
-      let g = added-holds in
-      let n = count_word in
-      let first = first-told in (
-        c.requires.stands,
-        (
-          omega (arith, n, few c.args.desk.now c.requires.bound c.requires.desk_bound a),
-          (
-            omega (arith, first, first_fits c.args.desk.now c.requires.bound c.requires.desk_bound a g),
-            rw (n, first) named-holds,
-          ),
-        ),
-      )
-    in record { stands = told.0; n_le_most_named = told.1; first_bound = told.2; first_value = told.3 }
+    let a = count-holds in
+    let g = added-holds in
+    let n = count_word in
+    let first = first-told in
+    record {
+      stands = c.requires.stands;
+      n_le_most_named = omega (arith, n, few c.args.desk.now c.requires.bound c.requires.desk_bound a);
+      first_bound = omega (arith, first, first_fits c.args.desk.now c.requires.bound c.requires.desk_bound a g);
+      first_value = rw (n, first) named-holds;
+    }
 
 pub returns-then-not-none_hard : goal.returns-then-not-none_hard
 unfolding last_count
@@ -257,8 +252,7 @@ returns-then-not-none_hard c =
     added-holds repaid (sym soft-told ∙ not-true _ c.if-not-none_hard.true-raw))
 
 pub too_heavy-requires : goal.too_heavy-requires
-unfolding weight_on
-unfolding last_count
+unfolding weight_on last_count
 too_heavy-requires c =
     let count_word : c.last_word-n.result ≡ last_count c.args.desk.now = c.last_word-n.ensures in
     let kind-told : c.last_word-kind.result ≡ last_kind c.args.desk.now = c.last_word-kind.ensures ∙ kind-word c.args.desk.now in
@@ -298,8 +292,7 @@ too_heavy-requires c =
     }
 
 pub returns : goal.returns
-unfolding over_after
-unfolding last_count
+unfolding over_after last_count
 returns c =
     let kind-told : c.last_word-kind.result ≡ last_kind c.args.desk.now = c.last_word-kind.ensures ∙ kind-word c.args.desk.now in
     let count_word : c.last_word-n.result ≡ last_count c.args.desk.now = c.last_word-n.ensures in

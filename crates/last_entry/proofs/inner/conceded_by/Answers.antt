@@ -34,16 +34,14 @@ last_word-requires c =
     }
 
 pub returns-then-kind-word : goal.returns-then-kind-word
-unfolding last_conceded last_weight
-unfolding merged_empty
+unfolding last_conceded last_weight merged_empty
 returns-then-kind-word c =
     let told : (eqb c.last_word-kind.result 1 && eqb c.word.result c.last_word.result) ≡ merged_empty
     c.args.desk.now = rw (c.last_word-kind.ensures ∙ kind-word c.args.desk.now, c.word.ensures, c.last_word.ensures ∙ first_word c.args.desk.now) in
     rw (← told, c.if-kind-word.true, mul-one) c.last_word-w.ensures
 
 pub returns-then-concedes-eq0 : goal.returns-then-concedes-eq0
-unfolding last_conceded last_weight
-unfolding merged_empty
+unfolding last_conceded last_weight merged_empty
 returns-then-concedes-eq0 c =
     let told : (eqb c.last_word-kind.result 1 && eqb c.word.result c.last_word.result) ≡ merged_empty
     c.args.desk.now = rw (c.last_word-kind.ensures ∙ kind-word c.args.desk.now, c.word.ensures, c.last_word.ensures ∙ first_word c.args.desk.now) in
@@ -52,8 +50,7 @@ returns-then-concedes-eq0 c =
     rw (← told, c.if-kind-word.false, none) (sym (mul-zero (get_or c.args.desk.now (last_place c.args.desk.now + 1) 0)))
 
 pub returns : goal.returns
-unfolding last_conceded last_weight
-unfolding merged_empty
+unfolding last_conceded last_weight merged_empty
 returns c =
     let told : (eqb c.last_word-kind.result 1 && eqb c.word.result c.last_word.result) ≡ merged_empty
     c.args.desk.now = rw (c.last_word-kind.ensures ∙ kind-word c.args.desk.now, c.word.ensures, c.last_word.ensures ∙ first_word c.args.desk.now) in

@@ -10,7 +10,7 @@ use Rattle.rules.specs.Desk.{in_use}
 use Rattle.last_entry.specs.Last.{added_well}
 use Rattle.last_entry.proofs.Lasts.{whole, added-up, fewer-few}
 use Rattle.last_entry.proofs.inner.rows_added.Goals as goal
-use Rattle.last_entry.proofs.inner.rows_added.Goals.{then-n-total, else-n-total}
+use Rattle.last_entry.proofs.inner.rows_added.Goals.{then-n-total+else-total-n, else-n-total}
 
 pub overflow_add-total : goal.overflow_add-total
 overflow_add-total c =
@@ -31,5 +31,5 @@ returns c =
     rw (c.word-in_use.ensures, c.fewer_added.ensures) in
     let no : eqb (in_use c.args.desk.now + fewer_added c.args.kind) (c.args.first + c.args.n) ≡ false =
     ne_eqb (in_use c.args.desk.now + fewer_added c.args.kind) (c.args.first + c.args.n)
-    (λ e. elim c.if-n-total.branch [ then-n-total w ↦ omega (arith, t, e) | else-n-total w ↦ omega (arith, t, e) ]) in
+    (λ e. elim c.if-n-total.branch [ then-n-total+else-total-n w ↦ omega (arith, t, e) | else-n-total w ↦ omega (arith, t, e) ]) in
     rw (no, c.word-in_use.ensures)

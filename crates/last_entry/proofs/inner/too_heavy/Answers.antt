@@ -17,8 +17,7 @@ last_word-w-requires c =
     }
 
 pub returns-then-w-gt-MOST_WEIGHT : goal.returns-then-w-gt-MOST_WEIGHT
-unfolding over_after
-unfolding last_weight
+unfolding over_after last_weight
 returns-then-w-gt-MOST_WEIGHT c =
     let weighty : most_weight < c.last_word-w.result → most_weight < last_weight c.args.desk.now = λ h. omega (arith, c.last_word-w.ensures) in
     sym (heavy-alone c.args.start c.args.n (last_weight c.args.desk.now) _ c.requires.some (weighty c.if-w-gt-MOST_WEIGHT.true))

@@ -13,18 +13,11 @@ use Rattle.remnants.proofs.Chains.{lit-first, lit-more, compensating-none}
 use Rattle.laying.proofs.Laying.{laid_none, lies-still, remnant-yet, turn-laid}
 use Rattle.laying.proofs.inner.lay_back.Goals as goal
 
-abbrev f : tie.Start invariant-loop decreases-loop → ℕ → Lits
-f s = remnant_of s.args.desk.now s.args.named.now
-
--- the compensating row of link i
-abbrev link : tie.Start invariant-loop decreases-loop → ℕ → Lits
-link s i = together (R.lit (f s) i) (negated_lits (R.lit (f s) (i + 1)))
-
 pub remnant_of-lit-requires : goal.remnant_of-lit-requires
 remnant_of-lit-requires c =
     record {
       on_desk = c.requires.behind.lies;
-      i_in_bounds = omega (arith, c.requires.1);
+      i_in_bounds = omega arith;
     }
 
 pub loop-i-init : goal.loop-i-init
@@ -37,30 +30,32 @@ loop-i-init c =
     )
 
 pub overflow_add-i : goal.overflow_add-i
-overflow_add-i c = omega (arith, c.requires.1)
+overflow_add-i c = omega arith
 
 pub remnant_of-requires : goal.remnant_of-requires
 remnant_of-requires c =
     record {
       on_desk = lies-still c.args.desk.now c.loop-i.desk c.args.named.now c.loop-i.invariant.3 c.requires.behind.lies;
-      i_in_bounds = omega (arith, c.requires.1);
+      i_in_bounds = omega arith;
     }
 
 pub overflow_add-first : goal.overflow_add-first
-overflow_add-first c = omega (arith, c)
+overflow_add-first c = omega arith
 
 pub set_row-requires : goal.set_row-requires
-set_row-requires c = omega (arith, c.loop-i-test, c.requires, c.loop-i.invariant.3)
+set_row-requires c = omega (arith, c.loop-i.invariant.3)
 
 pub overflow_add-i-in-loop-i : goal.overflow_add-i-in-loop-i
-overflow_add-i-in-loop-i c = omega (arith, c)
+overflow_add-i-in-loop-i c = omega arith
 
 pub loop-i-preserved : goal.loop-i-preserved
 loop-i-preserved c =
-    let remnant : c.remnant_of.result ≡ f c (c.loop-i.i + 1) = remnant-yet _ _ _ c.args.w c.loop-i.i (c.requires.behind.before (c.loop-i.i + 1) (omega (arith, c.requires.1))) c.loop-i.invariant.2 c.remnant_of.ensures in
-    let next : c.less-next.result ≡ R.lit (f c) (c.loop-i.i + 1) = c.less-next.ensures
-    ∙ rw (remnant, c.negated.ensures, c.loop-i.invariant.1) (sym (lit-more (f c) c.loop-i.i)) in
-    let row : c.new.result ≡ new_row (link c c.loop-i.i) c.args.w = c.new.ensures
+    let f : ℕ → Lits = remnant_of c.args.desk.now c.args.named.now in
+    let remnant : c.remnant_of.result ≡ f (c.loop-i.i + 1) = remnant-yet _ _ _ c.args.w c.loop-i.i (c.requires.behind.before (c.loop-i.i + 1) (omega arith)) c.loop-i.invariant.2 c.remnant_of.ensures in
+    let next : c.less-next.result ≡ R.lit f (c.loop-i.i + 1) = c.less-next.ensures
+    ∙ rw (remnant, c.negated.ensures, c.loop-i.invariant.1) (sym (lit-more f c.loop-i.i)) in
+    let link : ℕ → Lits = λ i. together (R.lit f i) (negated_lits (R.lit f (i + 1))) in
+    let row : c.new.result ≡ new_row (link c.loop-i.i) c.args.w = c.new.ensures
     ∙ ap (λ (x : Lits). new_row x c.args.w)
     (c.together.ensures ∙ rw (c.negated-in-loop-i.ensures, next, c.loop-i.invariant.1) refl) in
     (

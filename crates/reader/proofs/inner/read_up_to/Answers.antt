@@ -14,5 +14,5 @@ pub returns-in-Lines : goal.returns-in-Lines
 returns-in-Lines c =
     let told =
       behind-read c.args.most c.args.s.now c.args.table.now _ _ _ _ _ _ _ c.head_at.ensures c.in-Lines.is
-      c.read_rest.ensures
+      (c.read_rest.ensures.answer, c.read_rest.ensures.words)
     in record { answer = told.0; words = told.1 }

@@ -21,124 +21,76 @@ use Rattle.rewrites.proofs.Writing.{lowered, laid_out, named-well, lies, some-na
 use Rattle.rewrites.proofs.Writing.{lowered-same, laid_same, entry-still, step-whole}
 use Rattle.rewrites.proofs.inner.rewrite_step.Goals as goal
 
-abbrev start : tie.After-lightest → tie.Start
-start c = c.before.before.before.before.before
-
-abbrev light : tie.After-owed → tie.After-lightest
-light c = c.before.before.before.before
-
-abbrev owing : tie.After-reweigh → tie.After-owed
-owing c = c.before.before
-
-abbrev lower : tie.After-lay → tie.After-reweigh
-lower c = c.before.before.before.before
-
 pub bounds-desk-1 : goal.bounds-desk-1
-bounds-desk-1 c =
-    let accepted : Rewritten c.args.desk.now c.args.kind c.args.named.now = rewrite-fine c.args.desk.now c.args.kind c.args.named.now c.requires in
-    omega (arith, (lies _ _ _ accepted).head)
+bounds-desk-1 c = omega (arith, (lies _ _ _ (rewrite-fine _ _ _ c.requires)).head)
 
 pub lightest-w-requires : goal.lightest-w-requires
 lightest-w-requires c =
-    let accepted : Rewritten c.args.desk.now c.args.kind c.args.named.now = rewrite-fine c.args.desk.now c.args.kind c.args.named.now c.requires in
     record {
-      on_desk = lies _ _ _ accepted;
-      in_bounds = omega (arith, some-named _ _ _ accepted);
+      on_desk = lies _ _ _ (rewrite-fine _ _ _ c.requires);
+      in_bounds = omega (arith, some-named _ _ _ (rewrite-fine _ _ _ c.requires));
     }
 
 pub added-rows-requires : goal.added-rows-requires
 added-rows-requires c =
-    let accepted : Rewritten c.args.desk.now c.args.kind c.args.named.now = rewrite-fine c.args.desk.now c.args.kind c.args.named.now c.requires in
-    let s = start c in
     record {
-      on_desk = lies _ _ _ (accepted s);
-      well_named = (named-well _ _ _ (accepted s)).count;
+      on_desk = lies _ _ _ (rewrite-fine _ _ _ c.requires);
+      well_named = (named-well _ _ _ (rewrite-fine _ _ _ c.requires)).count;
     }
 
 pub bounds-desk-4 : goal.bounds-desk-4
-bounds-desk-4 c =
-    let accepted : Rewritten c.args.desk.now c.args.kind c.args.named.now = rewrite-fine c.args.desk.now c.args.kind c.args.named.now c.requires in
-    let s = start c in
-    omega (arith, (lies _ _ _ (accepted s)).head)
+bounds-desk-4 c = omega (arith, (lies _ _ _ (rewrite-fine _ _ _ c.requires)).head)
 
 pub overflow_mul-conceded : goal.overflow_mul-conceded
 overflow_mul-conceded c =
-    let owed-told : let s = start (light c) in
-    c.owed.result ≡ cond (eqb s.args.kind 1 && eqb (added_rows s.args.desk.now s.args.kind s.args.named.now) 0) 1 (concedes s.args.kind) = let s = start (light c) in
-    c.owed.ensures
-    ∙ ap (λ (r : ℕ). cond (eqb s.args.kind 1 && eqb r 0) 1 (concedes s.args.kind)) c.added-rows.ensures in
-    let accepted : Rewritten c.args.desk.now c.args.kind c.args.named.now = rewrite-fine c.args.desk.now c.args.kind c.args.named.now c.requires in
-    let owed-fits : (light c).lightest.result * c.owed.result ≤ most_weight = let s = start (light c) in
-    subst (λ (v : ℕ). v * c.owed.result ≤ most_weight) (sym (light c).lightest.ensures)
-    (subst (λ (o : ℕ). lightest s.args.desk.now s.args.named.now * o ≤ most_weight) (sym owed-told) (owed-once _ _ _ (accepted s))) in
+    let owed-told : c.owed.result ≡ cond (eqb c.args.kind 1 && eqb (added_rows c.args.desk.now c.args.kind c.args.named.now) 0) 1 (concedes c.args.kind) = c.owed.ensures
+    ∙ ap (λ (r : ℕ). cond (eqb c.args.kind 1 && eqb r 0) 1 (concedes c.args.kind)) c.added-rows.ensures in
+    let owed-fits : c.lightest-w.result * c.owed.result ≤ most_weight = subst (λ (v : ℕ). v * c.owed.result ≤ most_weight) (sym c.lightest-w.ensures)
+    (subst (λ (o : ℕ). lightest c.args.desk.now c.args.named.now * o ≤ most_weight) (sym owed-told) (owed-once _ _ _ (rewrite-fine _ _ _ c.requires))) in
     record { fits = omega (arith, owed-fits) }
 
 pub overflow_add-conceded : goal.overflow_add-conceded
 unfolding weight_on
 overflow_add-conceded c =
-    let owed-told : let s = start (light c) in
-    c.owed.result ≡ cond (eqb s.args.kind 1 && eqb (added_rows s.args.desk.now s.args.kind s.args.named.now) 0) 1 (concedes s.args.kind) = let s = start (light c) in
-    c.owed.ensures
-    ∙ ap (λ (r : ℕ). cond (eqb s.args.kind 1 && eqb r 0) 1 (concedes s.args.kind)) c.added-rows.ensures in
-    let accepted : Rewritten c.args.desk.now c.args.kind c.args.named.now = rewrite-fine c.args.desk.now c.args.kind c.args.named.now c.requires in
-    let owed-fits : (light c).lightest.result * c.owed.result ≤ most_weight = let s = start (light c) in
-    subst (λ (v : ℕ). v * c.owed.result ≤ most_weight) (sym (light c).lightest.ensures)
-    (subst (λ (o : ℕ). lightest s.args.desk.now s.args.named.now * o ≤ most_weight) (sym owed-told) (owed-once _ _ _ (accepted s))) in
-    let s = start (light c) in
-    omega (arith, owed-fits, (accepted s).desk.light)
+    let owed-told : c.owed.result ≡ cond (eqb c.args.kind 1 && eqb (added_rows c.args.desk.now c.args.kind c.args.named.now) 0) 1 (concedes c.args.kind) = c.owed.ensures
+    ∙ ap (λ (r : ℕ). cond (eqb c.args.kind 1 && eqb r 0) 1 (concedes c.args.kind)) c.added-rows.ensures in
+    let owed-fits : c.lightest-w.result * c.owed.result ≤ most_weight = subst (λ (v : ℕ). v * c.owed.result ≤ most_weight) (sym c.lightest-w.ensures)
+    (subst (λ (o : ℕ). lightest c.args.desk.now c.args.named.now * o ≤ most_weight) (sym owed-told) (owed-once _ _ _ (rewrite-fine _ _ _ c.requires))) in
+    omega (arith, owed-fits, (rewrite-fine _ _ _ c.requires).desk.light)
 
 pub reweigh-requires : goal.reweigh-requires
-reweigh-requires c =
-    let accepted : Rewritten c.args.desk.now c.args.kind c.args.named.now = rewrite-fine c.args.desk.now c.args.kind c.args.named.now c.requires in
-    let l = light c in
-    let s = start l in
-    subst (λ (v : ℕ). Reweighable s.args.desk.now s.args.named.now v false) (sym l.lightest.ensures) (can-lose _ _ _ (accepted s))
+reweigh-requires c = subst (λ (v : ℕ). Reweighable c.args.desk.now c.args.named.now v false) (sym c.lightest-w.ensures) (can-lose _ _ _ (rewrite-fine _ _ _ c.requires))
 
 pub lay-requires : goal.lay-requires
 lay-requires c =
-    let accepted : Rewritten c.args.desk.now c.args.kind c.args.named.now = rewrite-fine c.args.desk.now c.args.kind c.args.named.now c.requires in
-    let lowered-told : c.reweigh.new.0 ≡ lowered _ _ _ (accepted (start (light (owing c)))) = lowered-same _ _ _ (accepted (start (light (owing c)))) (light (owing c)).lightest.ensures c.reweigh.ensures in
-    let s = start (light (owing c)) in
-    subst (λ (e : List ℕ). Fitting e s.args.kind s.args.named.now (in_use s.args.desk.now)) (sym lowered-told) (can-lay _ _ _ (accepted s))
+    let lowered-told : c.reweigh.new.desk ≡ lowered _ _ _ (rewrite-fine _ _ _ c.requires) = lowered-same _ _ _ (rewrite-fine _ _ _ c.requires) c.lightest-w.ensures c.reweigh.ensures in
+    subst (λ (e : List ℕ). Fitting e c.args.kind c.args.named.now (in_use c.args.desk.now)) (sym lowered-told) (can-lay _ _ _ (rewrite-fine _ _ _ c.requires))
 
 pub rewriting_entry-entry-requires : goal.rewriting_entry-entry-requires
-rewriting_entry-entry-requires c =
-    let accepted : Rewritten c.args.desk.now c.args.kind c.args.named.now = rewrite-fine c.args.desk.now c.args.kind c.args.named.now c.requires in
-    let s = start (light (owing (lower c))) in
-    (plan _ _ _ (accepted s)).few
+rewriting_entry-entry-requires c = (plan _ _ _ (rewrite-fine _ _ _ c.requires)).few
 
 pub overflow_add-first : goal.overflow_add-first
 overflow_add-first c =
-    let accepted : Rewritten c.args.desk.now c.args.kind c.args.named.now = rewrite-fine c.args.desk.now c.args.kind c.args.named.now c.requires in
-    let o = owing (lower c) in
-    let s = start (light o) in
     omega (
       arith,
-      o.before.before.added.ensures,
-      added-few s.args.desk.now s.args.kind s.args.named.now,
-      (plan _ _ _ (accepted s)).few,
-      (accepted s).desk.fitting,
-      (accepted s).desk.roomy,
+      c.added-rows.ensures,
+      added-few c.args.desk.now c.args.kind c.args.named.now,
+      (plan _ _ _ (rewrite-fine _ _ _ c.requires)).few,
+      (rewrite-fine _ _ _ c.requires).desk.fitting,
+      (rewrite-fine _ _ _ c.requires).desk.roomy,
     )
 
 pub settle-requires : goal.settle-requires
 settle-requires c =
-    let accepted : Rewritten c.args.desk.now c.args.kind c.args.named.now = rewrite-fine c.args.desk.now c.args.kind c.args.named.now c.requires in
-    let lowered-told : c.reweigh.new.0 ≡ lowered _ _ _ (accepted (start (light (owing c)))) = lowered-same _ _ _ (accepted (start (light (owing c)))) (light (owing c)).lightest.ensures c.reweigh.ensures in
-    let laid-told : c.lay.new.0 ≡ laid_out _ _ _ (accepted (start (light (owing (lower c))))) = let l = light (owing (lower c)) in
-    laid_same _ _ _ (accepted (start l)) l.lightest.ensures (lowered-told (lower c)) c.lay.ensures in
-    subst EntryLeft (sym laid-told) (entry-still _ _ _ (accepted (start (light (owing (lower c))))))
+    let lowered-told : c.reweigh.new.desk ≡ lowered _ _ _ (rewrite-fine _ _ _ c.requires) = lowered-same _ _ _ (rewrite-fine _ _ _ c.requires) c.lightest-w.ensures c.reweigh.ensures in
+    let laid-told : c.lay.new.desk ≡ laid_out _ _ _ (rewrite-fine _ _ _ c.requires) = laid_same _ _ _ (rewrite-fine _ _ _ c.requires) c.lightest-w.ensures lowered-told c.lay.ensures in
+    subst EntryLeft (sym laid-told) (entry-still _ _ _ (rewrite-fine _ _ _ c.requires))
 
 pub returns : goal.returns
 returns c =
-    let accepted : Rewritten c.args.desk.now c.args.kind c.args.named.now = rewrite-fine c.args.desk.now c.args.kind c.args.named.now c.requires in
-    let lowered-told : c.reweigh.new.0 ≡ lowered _ _ _ (accepted (start (light (owing c)))) = lowered-same _ _ _ (accepted (start (light (owing c)))) (light (owing c)).lightest.ensures c.reweigh.ensures in
-    let laid-told : c.lay.new.0 ≡ laid_out _ _ _ (accepted (start (light (owing (lower c))))) = let l = light (owing (lower c)) in
-    laid_same _ _ _ (accepted (start l)) l.lightest.ensures (lowered-told (lower c)) c.lay.ensures in
-    let owed-told : let s = start (light c) in
-    c.owed.result ≡ cond (eqb s.args.kind 1 && eqb (added_rows s.args.desk.now s.args.kind s.args.named.now) 0) 1 (concedes s.args.kind) = let s = start (light c) in
-    c.owed.ensures
-    ∙ ap (λ (r : ℕ). cond (eqb s.args.kind 1 && eqb r 0) 1 (concedes s.args.kind)) c.added-rows.ensures in
-    let o = owing (lower c) in
-    step-whole _ _ _ (accepted (start (light o))) (light o).lightest.ensures o.before.before.added.ensures (owed-told o) laid-told
+    let owed-told : c.owed.result ≡ cond (eqb c.args.kind 1 && eqb (added_rows c.args.desk.now c.args.kind c.args.named.now) 0) 1 (concedes c.args.kind) = c.owed.ensures
+    ∙ ap (λ (r : ℕ). cond (eqb c.args.kind 1 && eqb r 0) 1 (concedes c.args.kind)) c.added-rows.ensures in
+    let lowered-told : c.reweigh.new.desk ≡ lowered _ _ _ (rewrite-fine _ _ _ c.requires) = lowered-same _ _ _ (rewrite-fine _ _ _ c.requires) c.lightest-w.ensures c.reweigh.ensures in
+    let laid-told : c.lay.new.desk ≡ laid_out _ _ _ (rewrite-fine _ _ _ c.requires) = laid_same _ _ _ (rewrite-fine _ _ _ c.requires) c.lightest-w.ensures lowered-told c.lay.ensures in
+    step-whole _ _ _ (rewrite-fine _ _ _ c.requires) c.lightest-w.ensures c.added-rows.ensures owed-told laid-told
     c.rewriting_entry-entry.ensures c.settle.ensures

@@ -16,5 +16,5 @@ pub returns-in-Figures : goal.returns-in-Figures
 returns-in-Figures c =
     let told =
       behind-read c.args.most c.args.s.now c.args.table.now _ _ _ _ _ (matched c.header_of.ensures c.in-Figures.is) _ _
-      c.read_rest.ensures
+      (c.read_rest.ensures.answer, c.read_rest.ensures.words)
     in record { answer = told.0; words = told.1 }
