@@ -5,8 +5,8 @@
 ghost use Rattle.std.specs.Prelude.{◌≡◌};
 ghost use Rattle.copy.specs.Copied.{length_of, copy_length, copy_out};
 
-use libc::{STDIN_FILENO, STDOUT_FILENO};
 use rules::{Row, TextRead, Written};
+use std::io;
 
 // One byte more than the longest text of an admissible table.
 const ROOM: usize = 560_024;
@@ -41,10 +41,10 @@ fn again(input: &[u8], output: &mut [u8]) -> usize
     }
 }
 
-fn main() {
+fn main(rt: HostRuntime) -> io::Result<()> {
     let mut input = [0u8; ROOM];
-    let n = io::read_full(STDIN_FILENO, &mut input);
+    let n = streams::read_full(&mut rt.stdin(), &mut input);
     let mut output = [0u8; ROOM];
     let m = again(&input[..n], &mut output);
-    io::write_all(STDOUT_FILENO, &output[..m]);
+    rt.write_all(&output[..m])
 }
