@@ -2,7 +2,7 @@
 // reader and writer on texts that are too long for the solver.
 #![tactic(auto)]
 
-ghost use Rattle.std.specs.Prelude.{◌≡◌};
+ghost use Rattle.std.specs.Prelude.{◌≡◌, length};
 ghost use Rattle.copy.specs.Copied.{length_of, copy_length, copy_out};
 
 use rules::{Row, TextRead, Written};
@@ -12,6 +12,12 @@ use std::io;
 const ROOM: usize = 560_024;
 
 const TABLE: usize = Row::WORDS * Row::MOST;
+
+fn room() -> [u8; ROOM]
+    ensures { length result ≡ 560_024 }
+{
+    [0; ROOM]
+}
 
 fn length_of(written: Written) -> usize
     ensures { result ≡ length_of written }
@@ -42,9 +48,9 @@ fn again(input: &[u8], output: &mut [u8]) -> usize
 }
 
 fn main(rt: HostRuntime) -> io::Result<()> {
-    let mut input = [0u8; ROOM];
+    let mut input = room();
     let n = streams::read_full(&mut rt.stdin(), &mut input);
-    let mut output = [0u8; ROOM];
+    let mut output = room();
     let m = again(&input[..n], &mut output);
     rt.write_all(&output[..m])
 }
