@@ -13,10 +13,10 @@ const ROOM: usize = 560_024;
 
 const TABLE: usize = Row::WORDS * Row::MOST;
 
-fn room() -> [u8; ROOM]
-    ensures { length result ≡ 560_024 }
+fn room<const N: usize>() -> [u8; N]
+    ensures { length result ≡ N }
 {
-    [0; ROOM]
+    [0; N]
 }
 
 fn length_of(written: Written) -> usize
@@ -48,9 +48,9 @@ fn again(input: &[u8], output: &mut [u8]) -> usize
 }
 
 fn main(rt: HostRuntime) -> io::Result<()> {
-    let mut input = room();
+    let mut input: [u8; ROOM] = room();
     let n = streams::read_full(&mut rt.stdin(), &mut input);
-    let mut output = room();
+    let mut output: [u8; ROOM] = room();
     let m = again(&input[..n], &mut output);
     rt.write_all(&output[..m])
 }
