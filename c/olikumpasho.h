@@ -1,5 +1,5 @@
 /* Olikumpasho: the arbiter of a register, for software in C, C++ or whatever calls C. Link target/staticlib/libolikumpasho.a, which
-   `c/library` proves and writes, for x86-64. It needs memcpy and memset and nothing else, allocates nothing and keeps nothing between
+   `c/library` proves and writes, for x86-64-v2 and above. It needs memcpy and memset and nothing else, allocates nothing and keeps nothing between
    calls.
 
    WHAT IS LENT. A pointer with a count behind it is a lent slice of so many words or bytes, aligned as its kind of value asks. WHERE THE

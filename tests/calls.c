@@ -39,7 +39,7 @@ static void expect(bool holds, const char *what)
 
    Each call is made twice, on copies that end where such a page begins, then on copies that begin where one ends, and both must come to
    the same. What is lent only to be read may not be written to during the call. A step of 65,536 bytes is a whole number of pages on
-   every machine, the emulator's too. */
+   every machine. */
 
 enum { STEP = 65536, ROOM = (MOST_LENT * (int)sizeof(word) / STEP + 1) * STEP };
 struct room {

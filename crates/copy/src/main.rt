@@ -2,16 +2,22 @@
 // reader and writer on texts that are too long for the solver.
 #![tactic(auto)]
 
-ghost use Rattle.std.specs.Prelude.{◌≡◌};
+ghost use Rattle.std.specs.Prelude.{◌≡◌, length};
 ghost use Rattle.copy.specs.Copied.{length_of, copy_length, copy_out};
 
-use libc::{STDIN_FILENO, STDOUT_FILENO};
 use rules::{Row, TextRead, Written};
+use std::io;
 
 // One byte more than the longest text of an admissible table.
 const ROOM: usize = 560_024;
 
 const TABLE: usize = Row::WORDS * Row::MOST;
+
+fn room<const N: usize>() -> [u8; N]
+    ensures { length result ≡ N }
+{
+    [0; N]
+}
 
 fn length_of(written: Written) -> usize
     ensures { result ≡ length_of written }
@@ -41,10 +47,10 @@ fn again(input: &[u8], output: &mut [u8]) -> usize
     }
 }
 
-fn main() {
-    let mut input = [0u8; ROOM];
-    let n = io::read_full(STDIN_FILENO, &mut input);
-    let mut output = [0u8; ROOM];
+fn main(rt: HostRuntime) -> io::Result<()> {
+    let mut input: [u8; ROOM] = room();
+    let n = streams::read_full(&mut rt.stdin(), &mut input);
+    let mut output: [u8; ROOM] = room();
     let m = again(&input[..n], &mut output);
-    io::write_all(STDOUT_FILENO, &output[..m]);
+    rt.write_all(&output[..m])
 }

@@ -7,8 +7,8 @@ ghost use Rattle.rules.specs.WcnfProgram.{wcnf_answer};
 ghost use Rattle.wcnf_lines.specs.Lengths.{most_answer};
 ghost use Rattle.streams.specs.Replies.{Replies};
 
-use libc::{STDIN_FILENO, STDOUT_FILENO};
 use rules::Written;
+use std::io;
 
 // No answer is longer.
 const ROOM: usize = 818;
@@ -24,11 +24,13 @@ fn reply(input: &[u8], output: &mut [u8]) -> usize
     n
 }
 
-fn main() {
+fn main(rt: HostRuntime) -> io::Result<()> {
+    let mut stdin = rt.stdin();
     let mut input = streams::kept();
-    let n = io::read_full(STDIN_FILENO, &mut input);
+    let n = streams::read_full(&mut stdin, &mut input);
     let mut output = [0u8; ROOM];
     let m = reply(&input[..n], &mut output);
-    io::write_all(STDOUT_FILENO, &output[..m]);
-    streams::drop_rest(n);
+    let written = rt.write_all(&output[..m]);
+    streams::drop_rest(&mut stdin, n);
+    written
 }

@@ -29,20 +29,22 @@ slice_bounds-table-end c =
     let fine : ReadFine most_rows c.args.input.now (row_words * most_rows)
     c.in-Table.variables
     c.in-Table.budget c.in-Table.rows = read-fine _ _ _ _ _ _ (sym c.read.ensures.answer ∙ c.in-Table.is) in
-    omega (arith, fine.few, c.read.auto.1.0)
+    omega (arith, fine.few, c.read.auto.table)
 
 pub slice_bounds-write-end : goal.slice_bounds-write-end
 slice_bounds-write-end c =
     let fine : ReadFine most_rows c.args.input.now (row_words * most_rows)
     c.in-Table.variables
     c.in-Table.budget c.in-Table.rows = read-fine _ _ _ _ _ _ (sym c.read.ensures.answer ∙ c.in-Table.is) in
-    simp length-take (omega (arith, fine.few, c.read.auto.1.0))
+    simp length-take (omega (arith, fine.few, c.read.auto.table))
 
 pub returns-in-Refused : goal.returns-in-Refused
 returns-in-Refused c =
-    let told =
-      not-read c.args.input.now c.args.output.now _ (sym c.read.ensures.answer ∙ c.in-Refused.is)
-    in record { length = told.0; bytes = told.1 }
+    let by = not-read c.args.input.now c.args.output.now _ (sym c.read.ensures.answer ∙ c.in-Refused.is) in
+    record {
+      length = by.0;
+      bytes = by.1;
+    }
 
 pub returns-in-Table : goal.returns-in-Table
 returns-in-Table c =

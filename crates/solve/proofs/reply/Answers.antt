@@ -1,0 +1,14 @@
+-- `reply` meets its contract: bytes with room for every answer are never refused, and hold the answer at their front.
+use Rattle.answer.proofs.Lengths.{never-refused}
+use Rattle.streams.proofs.Replying.{never-none, replied}
+use Rattle.solve.proofs.reply.Goals as goal
+
+pub returns-in_default : goal.returns-in_default
+returns-in_default c =
+    let fine = never-refused c.args.input.now c.args.output.now c.requires in
+    absurd (never-none _ _ fine _ c.answer.ensures.answer _ c.in_default.is)
+
+pub returns : goal.returns
+returns c =
+    let fine = never-refused c.args.input.now c.args.output.now c.requires in
+    replied _ _ fine _ c.answer.ensures.answer _ _ c.in-Bytes.is c.answer.ensures.bytes
