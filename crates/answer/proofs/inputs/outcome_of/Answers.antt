@@ -25,14 +25,14 @@ overflow_cast-budget c =
 
 pub slice_bounds-search_read-end : goal.slice_bounds-search_read-end
 slice_bounds-search_read-end c =
-    let long : length (replicate {A = ℕ} head_words 0 ++ (c.read_up_to.new.1.1.0 ++ [])) ≡ head_words + row_words * most_input_rows = omega (arith, c.read_up_to.auto.1.1.0, ap length (append-nil c.read_up_to.new.1.1.0)) in
+    let long : length (replicate {A = ℕ} head_words 0 ++ (c.read_up_to.new.table ++ [])) ≡ head_words + row_words * most_input_rows = omega (arith, c.read_up_to.auto.table, ap length (append-nil c.read_up_to.new.table)) in
     sym long
 
 pub search_read-requires : goal.search_read-requires
 search_read-requires c =
     let fine : ReadFine most_input_rows c.args.input.now (row_words * most_input_rows)
     c.in-Table.variables c.in-Table.budget c.in-Table.rows = read-fine _ _ _ _ _ _ (matched c.read_up_to.ensures.answer c.in-Table.is) in
-    let long : length (replicate {A = ℕ} head_words 0 ++ (c.read_up_to.new.1.1.0 ++ [])) ≡ head_words + row_words * most_input_rows = omega (arith, c.read_up_to.auto.1.1.0, ap length (append-nil c.read_up_to.new.1.1.0)) in
+    let long : length (replicate {A = ℕ} head_words 0 ++ (c.read_up_to.new.table ++ [])) ≡ head_words + row_words * most_input_rows = omega (arith, c.read_up_to.auto.table, ap length (append-nil c.read_up_to.new.table)) in
     omega (arith, fine.few, long)
 
 pub returns-in-Refused : goal.returns-in-Refused

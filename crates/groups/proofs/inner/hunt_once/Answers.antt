@@ -22,7 +22,7 @@ pub take-requires : goal.take-requires
 take-requires c =
     standing c.args.desk.now c.args.p c.args.weights.now _ _ _ c.hunt-t.ensures.rows_after c.hunt-t.ensures.roomy c.if-t-ne0.true _ _ c.gather-g.ensures.group_after
     c.gather-g.ensures.size_le_group_words
-    (c.gather-g.auto.1.1.1.1.1.1.0 ∙ c.requires.grouped) c.requires.lying.weights
+    (c.gather-g.auto.group ∙ c.requires.grouped) c.requires.lying.weights
 
 pub returns-then-t-ne0 : goal.returns-then-t-ne0
 returns-then-t-ne0 c =

@@ -29,22 +29,22 @@ hunt_once-cost-requires c = room-kept _ _ _ _ _ _ _ _ _ c.requires.room c.loop-k
 
 pub shape_of-weights-then-cost-eq0 : goal.shape_of-weights-then-cost-eq0
 shape_of-weights-then-cost-eq0 c =
-    c.hunt_once-cost.auto.1.1.0
+    c.hunt_once-cost.auto.weights
     ∙ c.loop-k.invariant.0
 
 pub shape_of-masks-then-cost-eq0 : goal.shape_of-masks-then-cost-eq0
 shape_of-masks-then-cost-eq0 c =
-    c.hunt_once-cost.auto.1.1.1.0
+    c.hunt_once-cost.auto.masks
     ∙ c.loop-k.invariant.1
 
 pub shape_of-rows-then-cost-eq0 : goal.shape_of-rows-then-cost-eq0
 shape_of-rows-then-cost-eq0 c =
-    c.hunt_once-cost.auto.1.1.1.1.0
+    c.hunt_once-cost.auto.rows
     ∙ c.loop-k.invariant.2
 
 pub shape_of-group-then-cost-eq0 : goal.shape_of-group-then-cost-eq0
 shape_of-group-then-cost-eq0 c =
-    c.hunt_once-cost.auto.1.1.1.1.1.0
+    c.hunt_once-cost.auto.group
     ∙ c.loop-k.invariant.3
 
 pub returns-then-cost-eq0 : goal.returns-then-cost-eq0
@@ -61,10 +61,10 @@ pub loop-k-preserved : goal.loop-k-preserved
 loop-k-preserved c =
     let less : c.loop-k.k < in_use c.args.desk.now = omega (arith, c.word-n.ensures) in
     (
-      c.hunt_once-cost.auto.1.1.0 ∙ c.loop-k.invariant.0,
-      c.hunt_once-cost.auto.1.1.1.0 ∙ c.loop-k.invariant.1,
-      c.hunt_once-cost.auto.1.1.1.1.0 ∙ c.loop-k.invariant.2,
-      c.hunt_once-cost.auto.1.1.1.1.1.0 ∙ c.loop-k.invariant.3,
+      c.hunt_once-cost.auto.weights ∙ c.loop-k.invariant.0,
+      c.hunt_once-cost.auto.masks ∙ c.loop-k.invariant.1,
+      c.hunt_once-cost.auto.rows ∙ c.loop-k.invariant.2,
+      c.hunt_once-cost.auto.group ∙ c.loop-k.invariant.3,
       count-more _ _ _ c.loop-k.invariant.4 less _ _ c.hunt_once-cost.ensures,
     )
 
