@@ -56,19 +56,19 @@ returns-then-v-word t c =
 pub walk-one-requires : goal.walk-one-requires
 walk-one-requires t c =
     (
-      smaller t c.args.desk.now c.args.p c.next-v.result true c.fixed.result ? c.requires.readable c.next-v.ensures
+      smaller t c.args.desk.now c.args.p c.next-v.result true c.fixed.result c.decreases c.requires.readable c.next-v.ensures
           (omega (arith, c.if-v-word.false, c.word.ensures))
           c.fixed.ensures,
-      ?,
+      (c.requires.readable, omega (arith, c.price_at-price.auto.work)),
     )
 
 pub walk-requires : goal.walk-requires
 walk-requires t c =
     (
-      smaller t c.args.desk.now c.args.p c.next-v.result false c.fixed-2.result ? c.requires.readable c.next-v.ensures
+      smaller t c.args.desk.now c.args.p c.next-v.result false c.fixed-2.result c.decreases c.requires.readable c.next-v.ensures
           (omega (arith, c.if-v-word.false, c.word.ensures))
           c.fixed-2.ensures,
-      ?,
+      (c.requires.readable, omega (arith, c.price_at-price.auto.work, c.walk-one.auto.work)),
     )
 
 pub returns : goal.returns
