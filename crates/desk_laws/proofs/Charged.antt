@@ -1,7 +1,7 @@
 -- What is lost with a charge for each hard row: what is lost, and a charge for each hard row that is. With no charge, and where no hard row is lost, it
 -- is what is lost; at a dead node it is no less than the charge.
 use Prim.Native.Nat.{ℕ, ◌+◌, ◌*◌, ◌^◌, ◌≤◌, ◌<◌}
-use mathlib.Core.Path.{◌≡◌, refl, sym, ap, ◌∙◌}
+use mathlib.Core.Path.{◌≡◌, refl, ◌∙◌}
 use mathlib.Core.List.{List}
 use mathlib.Core.Bool.{Bool, true, false, cond, not, ◌&&◌}
 use native.Mathlib.Omega.{arith}

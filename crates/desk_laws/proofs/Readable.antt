@@ -14,7 +14,7 @@ use Rattle.literals.specs.declared.Lits.{Lits}
 use Rattle.rules.specs.declared.Row.{Row}
 use Rattle.rules.specs.declared.Part.{Part}
 use Rattle.rules.specs.Table.{most_weight}
-use Rattle.rules.specs.Desk.{most_capacity, in_use, conceded, row_on, row_place, desk_words, well_formed, weight_on, satisfied, remnant}
+use Rattle.rules.specs.Desk.{in_use, conceded, row_on, row_place, desk_words, well_formed, weight_on, satisfied, remnant}
 use Rattle.rules.specs.Bound.{weight_where}
 use Rattle.desk_laws.specs.Readable.{Readable}
 use Rattle.desk_laws.proofs.Formed.{formed}

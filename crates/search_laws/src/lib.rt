@@ -1,3 +1,2 @@
 // Laws of a search by either bound. They are over the definitions alone, so that there is no code here.
 #![tactic(auto)]
-

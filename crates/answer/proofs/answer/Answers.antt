@@ -16,9 +16,9 @@ put_outcome-n-requires c = subst Counted (sym c.outcome_of-outcome.ensures) (out
 pub returns-then-output-n : goal.returns-then-output-n
 returns-then-output-n c =
     let told =
-      let lines = lines_are c.args.input.now _ c.outcome_of-outcome.ensures in
-      let long = (c.put_outcome-n.ensures.place ∙ zero-add _) ∙ ap length lines in
-      text-no-room _ _ _ refl (rw long at c.if-output-n.true)
+    let lines = lines_are c.args.input.now _ c.outcome_of-outcome.ensures in
+    let long = (c.put_outcome-n.ensures.place ∙ zero-add _) ∙ ap length lines in
+    text-no-room _ _ _ refl (rw long at c.if-output-n.true)
     in record { answer = told.0; bytes = told.1 }
 
 pub put_outcome-requires : goal.put_outcome-requires

@@ -4,7 +4,6 @@ use mathlib.Core.Path.{◌≡◌}
 use mathlib.Core.List.{List}
 use mathlib.Core.Bool.{Bool, true, not, ◌||◌}
 use Rattle.masks.specs.Sums.{every}
-use Rattle.masks.proofs.Choice.{both}
 use Rattle.rules.specs.Table.{bad_lits, bad_mark}
 use Rattle.rules.specs.Desk.{row_on}
 use Rattle.formed.proofs.rows_sound.Given as goal

@@ -42,11 +42,11 @@ overflow_add-at c = omega (arith, inside c.args.s.now c.loop-i.at (omega (arith,
 pub returns-in_default : goal.returns-in_default
 returns-in_default c =
     let parted : Parted c.args.s.now
-    c.loop-i.at c.loop-i.last c.if-last-ne0.at = 
-      elim c.if-last-ne0.branch [
-          then-last-ne0+else-b-ne32 w ↦ inr (w.if-last-ne0.true, matched c.byte_at-b.ensures w.if-b-ne32.false, w.at-is)
-        | else-last-ne0 w ↦ inl (w.if-last-ne0.false, w.at-is)
-      ] in
+    c.loop-i.at c.loop-i.last c.if-last-ne0.at =
+    elim c.if-last-ne0.branch [
+      | then-last-ne0+else-b-ne32 w ↦ inr (w.if-last-ne0.true, matched c.byte_at-b.ensures w.if-b-ne32.false, w.at-is)
+      | else-last-ne0 w ↦ inl (w.if-last-ne0.false, w.at-is)
+    ] in
     let turn : lits_from (suc (suc most_variables - (c.loop-i.i + 1))) c.args.s.now
     c.loop-i.at c.loop-i.last c.loop-i.lits
     ≡ lits_from (suc most_variables) c.args.s.now c.args.from 0 no_lits = let left : suc most_variables - c.loop-i.i ≡ suc (suc most_variables - (c.loop-i.i + 1)) = omega arith in
@@ -58,11 +58,11 @@ returns-in_default c =
 pub loop-i-preserved : goal.loop-i-preserved
 loop-i-preserved c =
     let parted : Parted c.args.s.now
-    c.loop-i.at c.loop-i.last c.if-last-ne0.at = 
-      elim c.if-last-ne0.branch [
-          then-last-ne0+else-b-ne32 w ↦ inr (w.if-last-ne0.true, matched c.byte_at-b.ensures w.if-b-ne32.false, w.at-is)
-        | else-last-ne0 w ↦ inl (w.if-last-ne0.false, w.at-is)
-      ] in
+    c.loop-i.at c.loop-i.last c.if-last-ne0.at =
+    elim c.if-last-ne0.branch [
+      | then-last-ne0+else-b-ne32 w ↦ inr (w.if-last-ne0.true, matched c.byte_at-b.ensures w.if-b-ne32.false, w.at-is)
+      | else-last-ne0 w ↦ inl (w.if-last-ne0.false, w.at-is)
+    ] in
     let turn : lits_from (suc (suc most_variables - (c.loop-i.i + 1))) c.args.s.now
     c.loop-i.at c.loop-i.last c.loop-i.lits
     ≡ lits_from (suc most_variables) c.args.s.now c.args.from 0 no_lits = let left : suc most_variables - c.loop-i.i ≡ suc (suc most_variables - (c.loop-i.i + 1)) = omega arith in

@@ -18,9 +18,9 @@ put_file-n-requires c =
 pub returns-then-out-n : goal.returns-then-out-n
 returns-then-out-n c =
     let told =
-      let long = c.put_file-n.ensures.place ∙ zero-add _ in
-      text-no-room _ _ _ (matched c.table_why.ensures c.in-Fine.is)
-      (rw long at c.if-out-n.true)
+    let long = c.put_file-n.ensures.place ∙ zero-add _ in
+    text-no-room _ _ _ (matched c.table_why.ensures c.in-Fine.is)
+    (rw long at c.if-out-n.true)
     in record { answer = told.0; bytes = told.1 }
 
 pub put_file-requires : goal.put_file-requires
@@ -34,7 +34,7 @@ put_file-requires c =
 pub returns-in-Refused : goal.returns-in-Refused
 returns-in-Refused c =
     let told =
-      text-refused _ _ _ _ (matched c.table_why.ensures c.in-Refused.is)
+    text-refused _ _ _ _ (matched c.table_why.ensures c.in-Refused.is)
     in record { answer = told.0; bytes = told.1 }
 
 pub returns-else-out-n : goal.returns-else-out-n

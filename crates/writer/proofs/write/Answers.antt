@@ -13,10 +13,10 @@ put_table-n-requires c = (table-fine _ _ (matched c.table_why.ensures c.in-Fine.
 pub returns-then-out-n : goal.returns-then-out-n
 returns-then-out-n c =
     let told =
-      let long = c.put_table-n.ensures.place ∙ zero-add _ in
-      text-no-room _ _ _
-      (matched c.table_why.ensures c.in-Fine.is)
-      (rw long at c.if-out-n.true)
+    let long = c.put_table-n.ensures.place ∙ zero-add _ in
+    text-no-room _ _ _
+    (matched c.table_why.ensures c.in-Fine.is)
+    (rw long at c.if-out-n.true)
     in record { answer = told.0; bytes = told.1 }
 
 pub put_table-requires : goal.put_table-requires
@@ -25,8 +25,8 @@ put_table-requires c = (table-fine _ _ (matched c.table_why.ensures c.in-Fine.is
 pub returns-in-Refused : goal.returns-in-Refused
 returns-in-Refused c =
     let told =
-      text-refused _ _ _ _
-      (matched c.table_why.ensures c.in-Refused.is)
+    text-refused _ _ _ _
+    (matched c.table_why.ensures c.in-Refused.is)
     in record { answer = told.0; bytes = told.1 }
 
 pub returns-else-out-n : goal.returns-else-out-n

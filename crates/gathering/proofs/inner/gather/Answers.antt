@@ -43,15 +43,14 @@ join-g-requires c =
     }
 
 pub loop-k-preserved : goal.loop-k-preserved
-loop-k-preserved c =
-    (
-      omega (arith, c.loop-k.invariant.0),
-      omega (arith, c.loop-k.invariant.1, c.join-g.ensures.size_bound),
-      c.join-g.auto.group ∙ c.loop-k.invariant.2,
-      gather-next c.args.desk.now c.args.weights.now c.args.p (λ j. get_or c.args.masks.now j 0) (λ j. get_or c.args.rows.now j 0)
-          c.loop-k.k _ _
-          c.loop-k.invariant.3 (omega arith) _ c.join-g.ensures.group_after,
-    )
+loop-k-preserved c = (
+  omega (arith, c.loop-k.invariant.0),
+  omega (arith, c.loop-k.invariant.1, c.join-g.ensures.size_bound),
+  c.join-g.auto.group ∙ c.loop-k.invariant.2,
+  gather-next c.args.desk.now c.args.weights.now c.args.p (λ j. get_or c.args.masks.now j 0) (λ j. get_or c.args.rows.now j 0)
+      c.loop-k.k _ _
+      c.loop-k.invariant.3 (omega arith) _ c.join-g.ensures.group_after,
+)
 
 pub shape_of-group : goal.shape_of-group
 shape_of-group c = c.loop-k.invariant.2 ∙ sym c.requires.lent.1

@@ -59,8 +59,7 @@ overflow_add-sum c =
 
 pub loop-k-preserved : goal.loop-k-preserved
 loop-k-preserved c =
-    let less : c.loop-k.k < in_use c.args.desk.now = omega (arith, c.word-n.ensures) in
-    (
+    let less : c.loop-k.k < in_use c.args.desk.now = omega (arith, c.word-n.ensures) in (
       c.hunt_once-cost.auto.weights ∙ c.loop-k.invariant.0,
       c.hunt_once-cost.auto.masks ∙ c.loop-k.invariant.1,
       c.hunt_once-cost.auto.rows ∙ c.loop-k.invariant.2,

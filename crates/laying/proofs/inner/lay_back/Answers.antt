@@ -21,13 +21,12 @@ remnant_of-lit-requires c =
     }
 
 pub loop-i-init : goal.loop-i-init
-loop-i-init c =
-    (
-      omega arith,
-      c.remnant_of-lit.ensures ∙ sym (lit-first _),
-      sym (ap (laid c.args.desk.now c.args.first c.args.w) (compensating-none _) ∙ laid_none c.args.desk.now c.args.first c.args.w),
-      refl,
-    )
+loop-i-init c = (
+  omega arith,
+  c.remnant_of-lit.ensures ∙ sym (lit-first _),
+  sym (ap (laid c.args.desk.now c.args.first c.args.w) (compensating-none _) ∙ laid_none c.args.desk.now c.args.first c.args.w),
+  refl,
+)
 
 pub overflow_add-i : goal.overflow_add-i
 overflow_add-i c = omega arith
@@ -57,8 +56,7 @@ loop-i-preserved c =
     let link : ℕ → Lits = λ i. together (R.lit f i) (negated_lits (R.lit f (i + 1))) in
     let row : c.new.result ≡ new_row (link c.loop-i.i) c.args.w = c.new.ensures
     ∙ ap (λ (x : Lits). new_row x c.args.w)
-    (c.together.ensures ∙ rw (c.negated-in-loop-i.ensures, next, c.loop-i.invariant.1) refl) in
-    (
+    (c.together.ensures ∙ rw (c.negated-in-loop-i.ensures, next, c.loop-i.invariant.1) refl) in (
       omega arith,
       next,
       turn-laid _ c.args.named.now _ _ c.loop-i.i c.loop-i.invariant.2 row c.set_row.ensures,

@@ -11,12 +11,11 @@ pub loop-i-init : goal.loop-i-init
 loop-i-init c = (omega arith, refl)
 
 pub loop-i-preserved : goal.loop-i-preserved
-loop-i-preserved c =
-    (
-      omega arith,
-      rw c.loop-i.invariant.1 (copied_more (blank c.args.kind c.args.w (length c.args.named.now) c.args.first)
-          c.args.named.now 3 c.loop-i.i (omega arith)),
-    )
+loop-i-preserved c = (
+  omega arith,
+  rw c.loop-i.invariant.1 (copied_more (blank c.args.kind c.args.w (length c.args.named.now) c.args.first)
+      c.args.named.now 3 c.loop-i.i (omega arith)),
+)
 
 pub returns : goal.returns
 returns c =

@@ -10,12 +10,11 @@ pub loop-i-init : goal.loop-i-init
 loop-i-init c = (omega arith, refl, rw add-zero)
 
 pub loop-i-preserved : goal.loop-i-preserved
-loop-i-preserved c =
-    (
-      omega arith,
-      ap length c.put.ensures.bytes ∙ length-set c.loop-i.out _ _ ∙ c.loop-i.invariant.1,
-      rw c.put.ensures.bytes (key-turn c.loop-i.out c.args.at c.args.key.now c.loop-i.i (omega arith) ∙ c.loop-i.invariant.2),
-    )
+loop-i-preserved c = (
+  omega arith,
+  ap length c.put.ensures.bytes ∙ length-set c.loop-i.out _ _ ∙ c.loop-i.invariant.1,
+  rw c.put.ensures.bytes (key-turn c.loop-i.out c.args.at c.args.key.now c.loop-i.i (omega arith) ∙ c.loop-i.invariant.2),
+)
 
 pub shape_of-out : goal.shape_of-out
 shape_of-out c = c.loop-i.invariant.1

@@ -30,12 +30,15 @@ loop-i-preserved c =
     let i : c.loop-i.i - 1 + 1 ≡ c.loop-i.i = omega arith in
     let m : smallest c.loop-i.i f ≡ min (smallest (c.loop-i.i - 1) f) (f c.loop-i.i) =
     subst (λ (k : ℕ). smallest k f ≡ min (smallest (c.loop-i.i - 1) f) (f k)) i (smallest-more (c.loop-i.i - 1) f) in
-    let n : c.loop-i.i + 1 - 1 ≡ c.loop-i.i = omega arith in
-    (omega arith, omega arith, rw n
-      (elim c.if-w-least.branch [
-          then-w-least w ↦ omega (arith, m, e, c.loop-i.invariant.2)
-        | else-w-least w ↦ omega (arith, m, e, c.loop-i.invariant.2)
-      ]))
+    let n : c.loop-i.i + 1 - 1 ≡ c.loop-i.i = omega arith in (
+      omega arith,
+      omega arith,
+      rw n
+          (elim c.if-w-least.branch [
+            | then-w-least w ↦ omega (arith, m, e, c.loop-i.invariant.2)
+            | else-w-least w ↦ omega (arith, m, e, c.loop-i.invariant.2)
+          ]),
+    )
 
 pub returns : goal.returns
 unfolding lightest

@@ -10,7 +10,7 @@ use Rattle.rules.specs.Table.{most_weight}
 use Rattle.rules.specs.Desk.{in_use, weight_on}
 use Rattle.rules.specs.Rewrite.{lightest}
 use Rattle.rules.specs.Steps.{concedes}
-use Rattle.desk_laws.proofs.Verdicts.{Rewritten, rewrite-fine}
+use Rattle.desk_laws.proofs.Verdicts.{rewrite-fine}
 use Rattle.step_laws.proofs.Accepted.{plan}
 use Rattle.words.specs.Room.{EntryLeft}
 use Rattle.named.specs.Reweigh.{Reweighable}

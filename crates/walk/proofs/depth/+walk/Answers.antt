@@ -1,5 +1,5 @@
 -- `walk` meets its contract: each of its returns is a law of the walk's definition, by the tests that led there.
-use Prim.Native.Nat.{ℕ, ◌≤◌, ◌<◌, min}
+use Prim.Native.Nat.{ℕ, ◌<◌, min}
 use mathlib.Core.Path.{◌≡◌, sym, ap, ap₂, ◌∙◌}
 use mathlib.Core.List.{List}
 use mathlib.Core.Bool.{Bool, true, false}
@@ -54,22 +54,20 @@ returns-then-v-word t c =
     (omega (arith, c.if-v-word.true, c.word.ensures))
 
 pub walk-one-requires : goal.walk-one-requires
-walk-one-requires t c =
-    (
-      smaller t c.args.desk.now c.args.p c.next-v.result true c.fixed.result c.decreases c.requires.readable c.next-v.ensures
-          (omega (arith, c.if-v-word.false, c.word.ensures))
-          c.fixed.ensures,
-      (c.requires.readable, omega (arith, c.price_at-price.auto.work)),
-    )
+walk-one-requires t c = (
+  smaller t c.args.desk.now c.args.p c.next-v.result true c.fixed.result c.decreases c.requires.readable c.next-v.ensures
+      (omega (arith, c.if-v-word.false, c.word.ensures))
+      c.fixed.ensures,
+  (c.requires.readable, omega (arith, c.price_at-price.auto.work)),
+)
 
 pub walk-requires : goal.walk-requires
-walk-requires t c =
-    (
-      smaller t c.args.desk.now c.args.p c.next-v.result false c.fixed-2.result c.decreases c.requires.readable c.next-v.ensures
-          (omega (arith, c.if-v-word.false, c.word.ensures))
-          c.fixed-2.ensures,
-      (c.requires.readable, omega (arith, c.price_at-price.auto.work, c.walk-one.auto.work)),
-    )
+walk-requires t c = (
+  smaller t c.args.desk.now c.args.p c.next-v.result false c.fixed-2.result c.decreases c.requires.readable c.next-v.ensures
+      (omega (arith, c.if-v-word.false, c.word.ensures))
+      c.fixed-2.ensures,
+  (c.requires.readable, omega (arith, c.price_at-price.auto.work, c.walk-one.auto.work)),
+)
 
 pub returns : goal.returns
 returns t c =

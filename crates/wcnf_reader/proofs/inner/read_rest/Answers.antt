@@ -11,8 +11,8 @@ store_rows-requires c =
 pub returns-in-Refused : goal.returns-in-Refused
 returns-in-Refused c =
     let told =
-      behind-refused c.args.most c.args.s.now c.args.table.now c.args.variables c.args.clauses c.args.top c.args.from c.args.line _
-      c.figures_why.ensures _ c.in-Refused.is
+    behind-refused c.args.most c.args.s.now c.args.table.now c.args.variables c.args.clauses c.args.top c.args.from c.args.line _
+    c.figures_why.ensures _ c.in-Refused.is
     in record { answer = told.0; words = told.1 }
 
 pub returns-in-Fine : goal.returns-in-Fine

@@ -1,6 +1,5 @@
 use mathlib.Core.Path.{sym}
 use Rattle.masks.proofs.Words.{zeroed-empty, zeroed-more}
-use Prim.Native.Nat.{◌-◌}
 use mathlib.Core.Path.{◌≡◌, refl}
 use native.Mathlib.Omega.{arith}
 use lib.ListN.{length-set}

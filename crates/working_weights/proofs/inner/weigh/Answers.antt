@@ -53,8 +53,7 @@ unfolding shares_of
 loop-i-preserved c =
     let lost-here : c.shares-s.result.lost ≡ weight_where is_empty c.args.p (charged_row c.args.charge (row_on c.args.desk.now c.loop-i.i)) = ap (λ (s : Shares). s.lost) c.shares-s.ensures
     ∙ ap (λ (r : Row). weight_where is_empty c.args.p (charged_row c.args.charge r)) c.row_on-row.ensures in
-    let within : c.loop-i.i < in_use c.args.desk.now = omega (arith, c.word-n.ensures) in
-    (
+    let within : c.loop-i.i < in_use c.args.desk.now = omega (arith, c.word-n.ensures) in (
       omega arith,
       omega (arith, c.loop-i.invariant.1, lost-here, sum_more c.loop-i.i (λ k. weight_where is_empty c.args.p (charged_row c.args.charge (row_on c.args.desk.now k)))),
       works-more c.args.desk.now c.args.p c.args.weights.now c.loop-i.i c.loop-i.weights c.loop-i.invariant.2 (omega (arith, within, c.requires.desk_in_bounds, c.loop-i.invariant.2.kept)) _
