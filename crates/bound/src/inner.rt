@@ -122,7 +122,9 @@ pub fn losses_at(desk: &[u64], p: Part) -> Losses
     }
 }
 
-// The price of a node: their total, and more than any best where a hard row is lost. Nothing is foreseen at such a node.
+// The price of a node: their total, and more than any best where a hard row is lost. Nothing is foreseen at such a node. Its sums are not to stand
+// on the stack at each depth of a walk.
+#[inline(never)]
 pub fn price_at(desk: &[u64], p: Part) -> u64
     requires { Readable desk.now }
     ensures { result ≡ price_of Choice.Units desk.now p }
