@@ -8,19 +8,17 @@ use outcomes::inner::search_read;
 use reader::inner::read_up_to;
 use rules::{Desk, Outcome, Refusal, TextRead};
 
-pub fn outcome_of(input: &[u8]) -> Outcome
+pub fn outcome_of(input: &[u8]) -> Result<Outcome, Refusal>
     ensures { result ≡ outcome_of input.now }
 {
     if input.len() > TextRead::MOST_INPUT {
-        return Outcome::Refused(Refusal::InputTooLong);
+        return Err(Refusal::InputTooLong);
     }
     let mut words = [0u64; WORDS];
-    match read_up_to(TextRead::MOST_INPUT_ROWS, input, &mut words[Desk::HEAD..]) {
-        TextRead::Refused(why) => Outcome::Refused(why),
-        TextRead::Table {
-            variables,
-            budget,
-            rows,
-        } => search_read(variables, budget as u32, rows, &mut words),
-    }
+    let TextRead {
+        variables,
+        budget,
+        rows,
+    } = read_up_to(TextRead::MOST_INPUT_ROWS, input, &mut words[Desk::HEAD..])?;
+    search_read(variables, budget as u32, rows, &mut words)
 }

@@ -1,4 +1,5 @@
 -- No answer is longer than its lines can be.
+use Rattle.std.specs.Prelude.{None, Result, Ok, Err}
 use Prim.Native.Nat.{ℕ, ◌≤◌}
 use mathlib.Core.Path.{◌≡◌, refl}
 use mathlib.Core.List.{◌++◌}
@@ -7,7 +8,6 @@ use lib.ListN.{length, length-append}
 use Rattle.literals.specs.Literal.{most_variables}
 use Rattle.rules.specs.declared.Refusal.{Refusal}
 use Rattle.rules.specs.declared.Status.{Status}
-use Rattle.rules.specs.declared.Best.{Best}
 use Rattle.rules.specs.declared.Found.{Found}
 use Rattle.rules.specs.declared.Losses.{Losses}
 use Rattle.rules.specs.declared.Outcome.{Outcome}
@@ -29,7 +29,7 @@ refusal-length r =
     rw (refusal_is r (numbered r) refl, length-append n p)
     (omega (arith, line-length number_key (number_of r), line-length place_key (place_of r)))
 
-pub found-length : (n : ℕ) (root : Losses) (f : Found) → n ≤ most_variables → (f.status ≡ Status.Impossible → f.best ≡ Best.Nothing)
+pub found-length : (n : ℕ) (root : Losses) (f : Found) → n ≤ most_variables → (f.status ≡ Status.Impossible → f.best ≡ None)
     → length (found_text n root f) ≤ most_answer
 found-length n root f h bare =
     let s = line "status=" (status_text f.status) in
@@ -43,6 +43,6 @@ found-length n root f h bare =
     let losses = losses-length root in
     rw (found-is n root f, length-append s (w ++ (k ++ (r ++ l))), length-append w (k ++ (r ++ l)), length-append k (r ++ l), length-append r l) (omega arith)
 
-pub outcome-length : (o : Outcome) → Counted o → length (outcome_text o) ≤ most_answer
-outcome-length (Outcome.Searched n root f) h = found-length n root f h.0 h.1
-outcome-length (Outcome.Refused r) h = refusal-length r
+pub outcome-length : (o : Result Outcome Refusal) → Counted o → length (outcome_text o) ≤ most_answer
+outcome-length (Ok o) h = found-length o.variables o.root o.found h.0 h.1
+outcome-length (Err r) h = refusal-length r

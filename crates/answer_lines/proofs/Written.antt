@@ -1,4 +1,5 @@
 -- The lines of an answer as the bytes that are stored for them, by case, and how long the first two of a search can be.
+use Rattle.std.specs.Prelude.{Option, Some, None}
 use Prim.Native.Nat.{ℕ, ◌+◌, ◌≤◌}
 use mathlib.Core.Path.{◌≡◌, refl}
 use mathlib.Core.List.{◌++◌}
@@ -39,11 +40,11 @@ pub status-impossible : (s : Status) → s ≡ Status.Impossible → line "statu
 unfolding line bytes
 status-impossible s e = rw e
 
-pub weight-none : (b : Best) → b ≡ Best.Nothing → line "weight=" (weight_text b) ≡ no_weight_line
+pub weight-none : (b : Option Best) → b ≡ None → line "weight=" (weight_text b) ≡ no_weight_line
 unfolding line bytes
 weight-none b e = rw e
 
-pub weight-some : (b : Best) (w r : ℕ) → b ≡ Best.Reading w r → line "weight=" (weight_text b) ≡ line_text weight_key w
+pub weight-some : (b : Option Best) (w r : ℕ) → b ≡ Some (record { weight = w; reading = r }) → line "weight=" (weight_text b) ≡ line_text weight_key w
 unfolding line bytes line_text
 weight-some b w r e = rw e
 
@@ -70,13 +71,13 @@ status-length Status.Done = omega arith
 status-length Status.Stopped = omega arith
 status-length Status.Impossible = omega arith
 
-pub weight-length : (b : Best) → length (line "weight=" (weight_text b)) ≤ most_weight_line
+pub weight-length : (b : Option Best) → length (line "weight=" (weight_text b)) ≤ most_weight_line
 unfolding line bytes line_text
-weight-length Best.Nothing = omega arith
-weight-length (Best.Reading w r) = line-length weight_key w
+weight-length None = omega arith
+weight-length (Some best) = line-length weight_key best.weight
 
 -- together: impossible is the longest, but has no weight
-pub two-length : (s : Status) (b : Best) → (s ≡ Status.Impossible → b ≡ Best.Nothing)
+pub two-length : (s : Status) (b : Option Best) → (s ≡ Status.Impossible → b ≡ None)
     → length (line "status=" (status_text s)) + length (line "weight=" (weight_text b)) ≤ length stopped_line + most_weight_line
 two-length Status.Done b h = rw (status-done Status.Done refl) (omega (arith, weight-length b))
 two-length Status.Stopped b h = rw (status-stopped Status.Stopped refl) (omega (arith, weight-length b))

@@ -31,13 +31,13 @@ fn put_status(out: &mut [u8], status: Status) -> usize
     }
 }
 
-fn put_weight(out: &mut [u8], at: usize, best: Best) -> usize
+fn put_weight(out: &mut [u8], at: usize, best: Option<Best>) -> usize
     requires { at + most_weight_line ≤ 2 ^ 32 }
     ensures { Stored out.old at (line "weight=" (weight_text best)) result out.new }
 {
     match best {
-        Best::Nothing => inner::put_key(out, at, b"weight=none\n"),
-        Best::Reading { weight, reading: _ } => inner::put_number_line(out, at, b"weight=", weight),
+        None => inner::put_key(out, at, b"weight=none\n"),
+        Some(Best { weight, reading: _ }) => inner::put_number_line(out, at, b"weight=", weight),
     }
 }
 
@@ -69,16 +69,16 @@ fn put_found(out: &mut [u8], variables: u64, root: Losses, found: Found) -> usiz
 }
 
 // What an input came to.
-pub fn put_outcome(out: &mut [u8], outcome: Outcome) -> usize
+pub fn put_outcome(out: &mut [u8], outcome: Result<Outcome, Refusal>) -> usize
     requires { Counted outcome }
     ensures { Stored out.old 0 (outcome_text outcome) result out.new }
 {
     match outcome {
-        Outcome::Refused(why) => put_refusal(out, why),
-        Outcome::Searched {
+        Err(why) => put_refusal(out, why),
+        Ok(Outcome {
             variables,
             root,
             found,
-        } => put_found(out, variables, root, found),
+        }) => put_found(out, variables, root, found),
     }
 }

@@ -7,7 +7,7 @@ ghost use Rattle.desk_laws.specs.Readable.{Readable};
 
 use formed::well_formed;
 use groups::inner::WORDS;
-use rules::{Bounded, Choice, Losses, Part, Refusal};
+use rules::{Choice, Losses, Part, Refusal};
 
 pub mod inner;
 
@@ -26,13 +26,13 @@ fn losses_by(desk: &[u64], choice: Choice, p: Part) -> Losses
 }
 
 // Where the bound of a desk comes from, under its own decisions, or the refusal.
-pub fn bound(desk: &[u64], choice: Choice) -> Bounded
+pub fn bound(desk: &[u64], choice: Choice) -> Result<Losses, Refusal>
     ensures { result ≡ bounded desk.now choice }
 {
     if well_formed(desk) {
         let p = inner::decisions(desk);
-        Bounded::Bound(losses_by(desk, choice, p))
+        Ok(losses_by(desk, choice, p))
     } else {
-        Bounded::Refused(Refusal::BadDesk)
+        Err(Refusal::BadDesk)
     }
 }

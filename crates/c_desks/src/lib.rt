@@ -7,7 +7,7 @@ ghost use Rattle.rules.specs.Table.{weighed};
 ghost use Rattle.rules.specs.Desk.{load_why, load_desk, well_formed};
 ghost use Rattle.telling.specs.Told.{told, by_weighed, weight_out};
 
-use rules::{Judged, Weighed};
+use rules::Weight;
 use telling::inner::tell;
 use telling::weighed_words;
 
@@ -22,8 +22,8 @@ pub extern "C" fn olikumpasho_weight_of(
     ensures lent { found.new ≡ weight_out (weighed variables table.now reading) found.old }
 {
     match tables::weight_of(variables, table, reading) {
-        Weighed::Refused(r) => tell(Judged::Refused(r)),
-        Weighed::Weight { weight, hold } => {
+        Err(r) => tell(Err(r)),
+        Ok(Weight { weight, hold }) => {
             *found = weighed_words(weight, hold);
             0
         }

@@ -6,7 +6,7 @@ ghost use Rattle.rules.specs.Choice.{choice_of, bounded};
 ghost use Rattle.rules.specs.Walk.{searched};
 ghost use Rattle.telling.specs.Told.{told, by_bounded, bound_out, by_searched, found_out};
 
-use rules::{Bounded, Choice, Judged, Searched};
+use rules::Choice;
 use telling::found_words;
 use telling::inner::tell;
 
@@ -27,8 +27,8 @@ pub extern "C" fn olikumpasho_bound(desk: &[u64], choice: u64, losses: &mut [u64
     ensures lent { losses.new ≡ bound_out (bounded desk.now (choice_of choice)) losses.old }
 {
     match bound::bound(desk, choice_of(choice)) {
-        Bounded::Refused(r) => tell(Judged::Refused(r)),
-        Bounded::Bound(b) => {
+        Err(r) => tell(Err(r)),
+        Ok(b) => {
             *losses = [b.conceded, b.lost, b.foreseen];
             0
         }
@@ -46,8 +46,8 @@ pub extern "C" fn olikumpasho_search(
     ensures lent { found.new ≡ found_out (searched desk.now (choice_of choice) budget) found.old }
 {
     match walk::search(desk, choice_of(choice), budget) {
-        Searched::Refused(r) => tell(Judged::Refused(r)),
-        Searched::Found(f) => {
+        Err(r) => tell(Err(r)),
+        Ok(f) => {
             *found = found_words(f);
             0
         }

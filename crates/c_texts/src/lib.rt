@@ -8,7 +8,7 @@ ghost use Rattle.rules.specs.Reader.{text_read, read_table};
 ghost use Rattle.rules.specs.Program.{answered, answer_out};
 ghost use Rattle.telling.specs.Told.{told, by_text_read, head_out, by_written, length_out};
 
-use rules::{Judged, TextRead, Written};
+use rules::TextRead;
 use telling::inner::tell;
 
 #[unsafe(no_mangle)]
@@ -18,12 +18,12 @@ pub extern "C" fn olikumpasho_read(text: &[u8], table: &mut [u64], head: &mut [u
     ensures lent { head.new ≡ head_out (text_read most_rows text.now (length table.old)) head.old }
 {
     match reader::read(text, table) {
-        TextRead::Refused(r) => tell(Judged::Refused(r)),
-        TextRead::Table {
+        Err(r) => tell(Err(r)),
+        Ok(TextRead {
             variables,
             budget,
             rows,
-        } => {
+        }) => {
             *head = [variables, budget, rows];
             0
         }
@@ -43,8 +43,8 @@ pub extern "C" fn olikumpasho_write(
     ensures lent { size.new ≡ length_out (written variables budget table.now output.old) size.old }
 {
     match writer::write(variables, budget, table, output) {
-        Written::Refused(r) => tell(Judged::Refused(r)),
-        Written::Bytes(n) => {
+        Err(r) => tell(Err(r)),
+        Ok(n) => {
             *size = n;
             0
         }
@@ -58,8 +58,8 @@ pub extern "C" fn olikumpasho_answer(input: &[u8], output: &mut [u8], bytes: &mu
     ensures lent { bytes.new ≡ length_out (answered input.now output.old) bytes.old }
 {
     match answer::answer(input, output) {
-        Written::Refused(why) => tell(Judged::Refused(why)),
-        Written::Bytes(n) => {
+        Err(why) => tell(Err(why)),
+        Ok(n) => {
             *bytes = n;
             0
         }

@@ -7,7 +7,7 @@ ghost use Rattle.rules.specs.Wcnf.{wcnf_written, wcnf_out};
 ghost use Rattle.rules.specs.WcnfReader.{wcnf_read, wcnf_table};
 ghost use Rattle.telling.specs.Told.{told, told_near, by_wcnf_read, figures_out, by_written, length_out};
 
-use rules::{Judged, WcnfRead, Written};
+use rules::WcnfRead;
 use telling::inner::tell;
 use telling::tell_near;
 
@@ -18,8 +18,8 @@ pub extern "C" fn olikumpasho_read_wcnf(text: &[u8], table: &mut [u64], head: &m
     ensures lent { head.new ≡ figures_out (wcnf_read most_rows text.now (length table.old)) head.old }
 {
     match wcnf_reader::read_wcnf(text, table) {
-        WcnfRead::Refused(r) => tell_near(Judged::Refused(r)),
-        WcnfRead::Table { variables, rows } => {
+        Err(r) => tell_near(Err(r)),
+        Ok(WcnfRead { variables, rows }) => {
             *head = [variables, rows];
             0
         }
@@ -38,8 +38,8 @@ pub extern "C" fn olikumpasho_write_wcnf(
     ensures lent { size.new ≡ length_out (wcnf_written variables table.now output.old) size.old }
 {
     match wcnf_writer::write_wcnf(variables, table, output) {
-        Written::Refused(r) => tell(Judged::Refused(r)),
-        Written::Bytes(n) => {
+        Err(r) => tell(Err(r)),
+        Ok(n) => {
             *size = n;
             0
         }

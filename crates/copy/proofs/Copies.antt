@@ -1,26 +1,26 @@
 -- The copy by case, and what it comes to. A text that is read is what the writer spells of its table: there is no other spelling.
+use Rattle.std.specs.Prelude.{Result, Ok, Err}
 use Prim.Native.Nat.{ℕ, ◌*◌}
 use mathlib.Core.Path.{◌≡◌, refl, subst, sym}
 use mathlib.Core.List.{List}
 use native.Mathlib.Omega.{arith}
 use lib.ListN.{length, drop, length-append}
 use lib.Seq.{take_at}
-use Rattle.rules.specs.declared.Judged.{Judged}
-use Rattle.rules.specs.declared.Judged.TheVariants.{Fine, Refused}
+use Rattle.rules.specs.Refusals.{Judged}
 use Rattle.rules.specs.declared.Refusal.{Refusal}
 use Rattle.rules.specs.declared.TextRead.{TextRead}
 use Rattle.rules.specs.Table.{row_words, most_rows}
 use Rattle.rules.specs.Text.{text_written, text_out, table_text, write_why, written, write_out}
-use Rattle.rules.specs.Reader.{read_words, text_read}
+use Rattle.rules.specs.Reader.{read_words, text_read, text_says}
 use Rattle.text_laws.proofs.Converse.{converse}
 use Rattle.copy.specs.Copied.{length_of, length_by, out_by, copy_length, copy_out, Copied}
 
 module _ (input out : List ℕ) where
-  pub not-read : (r : Refusal) → text_read most_rows input (row_words * most_rows) ≡ TextRead.Refused r → (0 ≡ copy_length input out) × (out ≡ copy_out input out)
+  pub not-read : (r : Refusal) → text_read most_rows input (row_words * most_rows) ≡ Err r → (0 ≡ copy_length input out) × (out ≡ copy_out input out)
   unfolding copy_length copy_out
   not-read r h = (rw h, rw h)
 
-  pub read : (n b m : ℕ) (table : List ℕ) → text_read most_rows input (row_words * most_rows) ≡ TextRead.Table n b m → table ≡ read_words input
+  pub read : (n b m : ℕ) (table : List ℕ) → text_read most_rows input (row_words * most_rows) ≡ Ok (text_says n b m) → table ≡ read_words input
       → (length_of (written n b table out) ≡ copy_length input out) × (write_out n b table out ≡ copy_out input out)
   unfolding copy_length copy_out
   read n b m table h words = (rw (h, words), rw (h, words))
@@ -36,22 +36,22 @@ at_front n b table out = go (write_why n b table out) refl
     text = table_text n b table
 
     go : (j : Judged) → write_why n b table out ≡ j → Copied text (length_of (written n b table out)) (write_out n b table out)
-    go Fine e =
+    go (Ok _) e =
         rw e (record {
           within = rw (length-append text (drop (length text) out)) (omega arith);
           same = λ some. take_at text (drop (length text) out) (length text) refl;
         })
-    go (Refused r) e = rw e (nothing text out)
+    go (Err r) e = rw e (nothing text out)
 
 pub copies : (input out : List ℕ) → Copied input (copy_length input out) (copy_out input out)
 unfolding copy_length copy_out
 copies input out = go (text_read most_rows input (row_words * most_rows)) refl
   where
-    go : (x : TextRead) → text_read most_rows input (row_words * most_rows) ≡ x → Copied input (length_by (read_words input) out x) (out_by (read_words input) out x)
-    go (TextRead.Table n b m) e =
-        subst (λ s. Copied s (length_of (written n b (read_words input) out)) (write_out n b (read_words input) out))
-        (sym (converse most_rows input (row_words * most_rows) n b m e)) (at_front n b (read_words input) out)
-    go (TextRead.Refused r) e = nothing input out
+    go : (x : Result TextRead Refusal) → text_read most_rows input (row_words * most_rows) ≡ x → Copied input (length_by (read_words input) out x) (out_by (read_words input) out x)
+    go (Ok said) e =
+        subst (λ s. Copied s (length_of (written said.variables said.budget (read_words input) out)) (write_out said.variables said.budget (read_words input) out))
+        (sym (converse most_rows input (row_words * most_rows) said.variables said.budget said.rows e)) (at_front said.variables said.budget (read_words input) out)
+    go (Err r) e = nothing input out
 
 -- the same of what a call gives and leaves
 pub copied : (input out after : List ℕ) (n : ℕ) → (n ≡ copy_length input out) × (after ≡ copy_out input out) → Copied input n after

@@ -3,9 +3,9 @@
 #![tactic(auto)]
 
 ghost use Rattle.std.specs.Prelude.{◌≡◌, length};
-ghost use Rattle.copy.specs.Copied.{length_of, copy_length, copy_out};
+ghost use Rattle.copy.specs.Copied.{copy_length, copy_out};
 
-use rules::{Row, TextRead, Written};
+use rules::{Row, TextRead};
 use std::io;
 
 // One byte more than the longest text of an admissible table.
@@ -19,32 +19,21 @@ fn room<const N: usize>() -> [u8; N]
     [0; N]
 }
 
-fn length_of(written: Written) -> usize
-    ensures { result ≡ length_of written }
-{
-    match written {
-        Written::Bytes(n) => n,
-        Written::Refused(_) => 0,
-    }
-}
-
 fn again(input: &[u8], output: &mut [u8]) -> usize
     ensures length { result ≡ copy_length input.now output.old }
     ensures bytes { output.new ≡ copy_out input.now output.old }
 {
     let mut table = [0u64; TABLE];
-    match reader::read(input, &mut table) {
-        TextRead::Refused(_) => 0,
-        TextRead::Table {
-            variables,
-            budget,
-            rows,
-        } => {
-            let n = Row::WORDS * (rows as usize);
-            let written = writer::write(variables, budget as u32, &table[..n], output);
-            length_of(written)
-        }
-    }
+    let Ok(TextRead {
+        variables,
+        budget,
+        rows,
+    }) = reader::read(input, &mut table)
+    else {
+        return 0;
+    };
+    let n = Row::WORDS * (rows as usize);
+    writer::write(variables, budget as u32, &table[..n], output).unwrap_or(0)
 }
 
 fn main(rt: HostRuntime) -> io::Result<()> {

@@ -8,41 +8,36 @@ ghost use Rattle.deciding.specs.Order.{step_why, out_of_reach};
 
 use formed::well_formed;
 use inner::decide_step;
-use literals::{Literal, Offered};
-use rules::{Desk, Judged, Refusal, word};
+use literals::Literal;
+use rules::{Desk, Refusal, word};
 
 pub mod inner;
 
 // The literal is decided: a signed number, of any value.
-pub fn decide(desk: &mut [u64], literal: i64) -> Judged
+pub fn decide(desk: &mut [u64], literal: i64) -> Result<(), Refusal>
     ensures value { result ≡ decide_why desk.old literal }
     ensures desk_after { desk.new ≡ decide_desk desk.old literal }
 {
-    let why = step_why(desk);
-    let Judged::Fine = why else {
-        return why;
-    };
-    let Offered::Fine(l) = Literal::new(literal) else {
-        return Judged::Refused(Refusal::BadLiteral);
-    };
+    step_why(desk)?;
+    let l = Literal::new(literal).ok_or(Refusal::BadLiteral)?;
     if out_of_reach(desk, l) {
-        return Judged::Refused(Refusal::BadLiteral);
+        return Err(Refusal::BadLiteral);
     }
     decide_step(desk, l);
-    Judged::Fine
+    Ok(())
 }
 
 // 10 and 11.
-fn step_why(desk: &[u64]) -> Judged
+fn step_why(desk: &[u64]) -> Result<(), Refusal>
     ensures { result ≡ step_why desk.now }
 {
     if !well_formed(desk) {
-        return Judged::Refused(Refusal::BadDesk);
+        return Err(Refusal::BadDesk);
     }
     if Desk::MOST_STEPS <= word(desk, Desk::STANDING) {
-        return Judged::Refused(Refusal::TooManySteps);
+        return Err(Refusal::TooManySteps);
     }
-    Judged::Fine
+    Ok(())
 }
 
 // Above the count, or already decided.

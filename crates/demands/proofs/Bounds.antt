@@ -1,4 +1,5 @@
 -- The two bounds of a desk, and two searches by them, side by side: read off the answers, and then laws of search_laws.
+use Rattle.std.specs.Prelude.{Ok}
 use Prim.Native.Nat.{ℕ, ◌≤◌}
 use mathlib.Core.Path.{◌≡◌, sym, ap, ◌∙◌}
 use mathlib.Core.List.{List}
@@ -6,10 +7,8 @@ use mathlib.Core.Bool.{Bool, false}
 use native.Mathlib.Omega.{arith}
 use Rattle.rules.specs.declared.Choice.{Choice}
 use Rattle.rules.specs.declared.Losses.{Losses}
-use Rattle.rules.specs.declared.Bounded.{Bounded}
 use Rattle.rules.specs.declared.Status.{Status}
 use Rattle.rules.specs.declared.Found.{Found}
-use Rattle.rules.specs.declared.Searched.{Searched}
 use Rattle.rules.specs.Desk.{decisions}
 use Rattle.rules.specs.Bound.{total}
 use Rattle.rules.specs.Choice.{bounded}
@@ -22,7 +21,7 @@ use Rattle.search_laws.proofs.Either.{either-total, either_same, groups-fewer}
 use Rattle.search_laws.proofs.Answers.{bounded-well, found-well, finished-status}
 use Rattle.demands.specs.Bounds.{BoundsCompared}
 
-never-below : (d : List ℕ) (units groups : Losses) → bounded d Choice.Units ≡ Bounded.Bound units → bounded d Choice.Groups ≡ Bounded.Bound groups
+never-below : (d : List ℕ) (units groups : Losses) → bounded d Choice.Units ≡ Ok units → bounded d Choice.Groups ≡ Ok groups
     → total units ≤ total groups
 never-below d units groups u g =
     let f = formed d (bounded-well d Choice.Units units u).0 in
@@ -34,14 +33,14 @@ never-below d units groups u g =
     )
 
 -- an answer that does not say stopped is of a walk that is not
-not_stopped : (d : List ℕ) (choice : Choice) (budget : ℕ) (f : Found) → searched d choice budget ≡ Searched.Found f → (f.status ≡ Status.Stopped → ⊥)
+not_stopped : (d : List ℕ) (choice : Choice) (budget : ℕ) (f : Found) → searched d choice budget ≡ Ok f → (f.status ≡ Status.Stopped → ⊥)
     → (walk_in d choice budget).stopped ≡ false
 not_stopped d choice budget f answer runs =
     let is = (found-well d choice budget f answer).1 in
     (finished-status (walk_in d choice budget).stopped (walk_in d choice budget).kept).0 (λ q. runs (ap (λ (x : Found). x.status) is ∙ q))
 
-no-more-nodes : (d : List ℕ) (budget : ℕ) (units groups : Found) → searched d Choice.Units budget ≡ Searched.Found units
-    → searched d Choice.Groups budget ≡ Searched.Found groups → (units.status ≡ Status.Stopped → ⊥)
+no-more-nodes : (d : List ℕ) (budget : ℕ) (units groups : Found) → searched d Choice.Units budget ≡ Ok units
+    → searched d Choice.Groups budget ≡ Ok groups → (units.status ≡ Status.Stopped → ⊥)
     → (groups.status ≡ units.status) × (groups.nodes ≤ units.nodes)
 unfolding chosen
 no-more-nodes d budget units groups u g runs =
@@ -57,8 +56,8 @@ no-more-nodes d budget units groups u g runs =
       omega (arith, ap (λ (x : Found). x.nodes) a.1, ap (λ (x : Found). x.nodes) b.1, fewer.1),
     )
 
-same-reading : (d : List ℕ) (one other : Choice) (budget more : ℕ) (f g : Found) → searched d one budget ≡ Searched.Found f
-    → searched d other more ≡ Searched.Found g → (f.status ≡ Status.Stopped → ⊥) → (g.status ≡ Status.Stopped → ⊥)
+same-reading : (d : List ℕ) (one other : Choice) (budget more : ℕ) (f g : Found) → searched d one budget ≡ Ok f
+    → searched d other more ≡ Ok g → (f.status ≡ Status.Stopped → ⊥) → (g.status ≡ Status.Stopped → ⊥)
     → (f.status ≡ g.status) × (f.best ≡ g.best)
 unfolding chosen
 same-reading d one other budget more f g a b runs runs' =

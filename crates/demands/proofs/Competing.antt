@@ -1,15 +1,14 @@
 -- What is promised of competition files, of the laws of their text.
+use Rattle.std.specs.Prelude.{Result, Ok, Err}
 use Prim.Native.Nat.{ℕ}
 use mathlib.Core.Path.{◌≡◌, refl, sym, subst, ◌∙◌}
 use mathlib.Core.List.{List, ◌++◌}
 use lib.ListN.{length, drop}
-use Rattle.rules.specs.declared.Judged.{Judged}
-use Rattle.rules.specs.declared.Judged.TheVariants.{Fine, Refused}
+use Rattle.rules.specs.Refusals.{Judged}
 use Rattle.rules.specs.declared.WcnfHead.{WcnfHead}
-use Rattle.rules.specs.declared.WcnfRead.{WcnfRead}
 use Rattle.rules.specs.Table.{table_why}
 use Rattle.rules.specs.Wcnf.{wcnf_text}
-use Rattle.rules.specs.WcnfReader.{header_of, header_why, wcnf_read_why, wcnf_words, wcnf_read_as, wcnf_read, wcnf_table}
+use Rattle.rules.specs.WcnfReader.{header_of, header_why, wcnf_read_why, wcnf_words, wcnf_read_as, wcnf_read, wcnf_table, file_says, header_says}
 use Rattle.rules.proofs.Judging.{words-fine}
 use Rattle.text_laws.proofs.LentBytes.{text-fine, text-written}
 use Rattle.wcnf_laws.specs.Form.{Form, Held, form_text}
@@ -27,16 +26,16 @@ pub says-judged : (most : ℕ) (s : List ℕ) (room : ℕ) → reader_why most s
 unfolding wcnf_read wcnf_read_why
 says-judged most s room = by-header (header_of s)
   where
-    accepted : (j : Judged) (v m t next line : ℕ) → by_wcnf_read (wcnf_read_as j (WcnfHead.Figures v m t next line)) ≡ j
-    accepted Fine v m t next line = refl
-    accepted (Refused r) v m t next line = refl
+    accepted : (j : Judged) (v m t next line : ℕ) → by_wcnf_read (wcnf_read_as j (Ok (header_says v m t next line))) ≡ j
+    accepted (Ok _) v m t next line = refl
+    accepted (Err r) v m t next line = refl
 
-    by-header : (h : WcnfHead) → by_wcnf_read (wcnf_read_as (header_why most s room h) h) ≡ header_why most s room h
-    by-header (WcnfHead.Figures v m t next line) = accepted (header_why most s room (WcnfHead.Figures v m t next line)) v m t next line
-    by-header (WcnfHead.Broken line) = refl
+    by-header : (h : Result WcnfHead ℕ) → by_wcnf_read (wcnf_read_as (header_why most s room h) h) ≡ header_why most s room h
+    by-header (Ok head) = accepted (header_why most s room (Ok (header_says head.variables head.clauses head.top head.next head.line))) head.variables head.clauses head.top head.next head.line
+    by-header (Err line) = refl
 
-module _ (most : ℕ) (f : Form) (lent : List ℕ) (held : Held f) (fine : wcnf_read_why most (form_text f) (length lent) ≡ Fine) where
-  file-answers : wcnf_read most (form_text f) (length lent) ≡ WcnfRead.Table f.header.variables f.header.clauses
+module _ (most : ℕ) (f : Form) (lent : List ℕ) (held : Held f) (fine : wcnf_read_why most (form_text f) (length lent) ≡ Ok tt) where
+  file-answers : wcnf_read most (form_text f) (length lent) ≡ Ok (file_says f.header.variables f.header.clauses)
   unfolding wcnf_read
   file-answers = rw (fine, (figured (form_text f) f held refl).header)
 

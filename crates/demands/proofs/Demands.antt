@@ -1,5 +1,6 @@
 -- The demands hold. Each is put together here from the laws of the crates below: steps and runs (step_laws), bound and walk (walk_laws, search_laws), text
 -- (text_laws).
+use Rattle.std.specs.Prelude.{Ok, Err}
 use Prim.Native.Nat.{ℕ, ◌≤◌}
 use mathlib.Core.Path.{◌≡◌, refl, sym, ap, ◌∙◌, subst}
 use mathlib.Core.List.{List, ◌++◌}
@@ -9,10 +10,7 @@ use lib.ListN.{length, take, drop}
 use lib.IntN.{ℤ}
 use Rattle.masks.proofs.Choice.{impossible}
 use Rattle.rules.specs.declared.Choice.{Choice}
-use Rattle.rules.specs.declared.Judged.{Judged}
-use Rattle.rules.specs.declared.Judged.TheVariants.{Fine, Refused}
-use Rattle.rules.specs.declared.Searched.{Searched}
-use Rattle.rules.specs.Refusals.{unless_refused}
+use Rattle.rules.specs.Refusals.{Judged, unless_refused}
 use Rattle.rules.proofs.Judging.{is_fine}
 use Rattle.rules.specs.Table.{most_rows, table_why}
 use Rattle.rules.specs.Desk.{desk_words, well_formed, load_why, load_step, load_desk}
@@ -51,8 +49,8 @@ use Rattle.demands.proofs.Searching.{search-stop-rule}
 
 -- a refused call leaves what it found
 left : (j : Judged) (step found : List ℕ) → Unchanged j found (unless_refused j step found)
-left Fine step found r e = impossible (cc)
-left (Refused q) step found r e = refl
+left (Ok _) step found r e = impossible (cc)
+left (Err q) step found r e = refl
 
 load-left : (n : ℕ) (table : List ℕ) (c : ℕ) (d : List ℕ) → Unchanged (load_why n table c d) d (load_desk n table c d)
 unfolding load_desk
@@ -85,13 +83,13 @@ read-file-left text table r e =
     let words = wcnf_words text in
     left (wcnf_read_why most_rows text (length table)) (words ++ drop (length words) table) table r (sym (file-judged most_rows text (length table)) ∙ e)
 
-near-fine : (j : Judged) → told_near j ≡ 0 → j ≡ Fine
-near-fine Fine e = refl
-near-fine (Refused r) e = absurd (omega (arith, number_small r, e))
+near-fine : (j : Judged) → told_near j ≡ 0 → j ≡ Ok tt
+near-fine (Ok _) e = refl
+near-fine (Err r) e = absurd (omega (arith, number_small r, e))
 
-zero-fine : (j : Judged) → told j ≡ 0 → j ≡ Fine
-zero-fine Fine e = refl
-zero-fine (Refused r) e = absurd (omega (arith, number_small r, e))
+zero-fine : (j : Judged) → told j ≡ 0 → j ≡ Ok tt
+zero-fine (Ok _) e = refl
+zero-fine (Err r) e = absurd (omega (arith, number_small r, e))
 
 pub demand-1 : Demand1
 demand-1 =
@@ -108,10 +106,10 @@ demand-1 =
       take_back = take-back-left;
       read = read_left;
       write = λ n budget table out. text-left (table_why n table) (table_text n budget table) out;
-      answer = λ input output. text-left Fine (answer input) output;
+      answer = λ input output. text-left (Ok tt) (answer input) output;
       read_wcnf = read-file-left;
       write_wcnf = λ n table out. text-left (table_why n table) (wcnf_text n table) out;
-      answer_wcnf = λ input output. text-left Fine (wcnf_answer input) output;
+      answer_wcnf = λ input output. text-left (Ok tt) (wcnf_answer input) output;
     }
 
 -- ---- demand 2
@@ -141,16 +139,16 @@ demand-2 =
 
 -- ---- demand 3
 
-load-laid : (n : ℕ) (table : List ℕ) (c : ℕ) (d : List ℕ) → load_why n table c d ≡ Fine → load_desk n table c d ≡ load_step n table c d
+load-laid : (n : ℕ) (table : List ℕ) (c : ℕ) (d : List ℕ) → load_why n table c d ≡ Ok tt → load_desk n table c d ≡ load_step n table c d
 unfolding load_desk
 load-laid n table c d fine = rw fine
 
 search-given : (d : List ℕ) (choice : Choice) (budget : ℕ) → well_formed d ≡ true
-    → searched d choice budget ≡ Searched.Found (found_by (walk_in d choice budget))
+    → searched d choice budget ≡ Ok (found_by (walk_in d choice budget))
 unfolding searched desk_why
 search-given d choice budget w = rw w
 
-run-kept : (n : ℕ) (table : List ℕ) (c : ℕ) (d : List ℕ) → load_why n table c d ≡ Fine → (calls : List Call) → LoadsRefused (load_step n table c d) calls
+run-kept : (n : ℕ) (table : List ℕ) (c : ℕ) (d : List ℕ) → load_why n table c d ≡ Ok tt → (calls : List Call) → LoadsRefused (load_step n table c d) calls
     → Kept n table c d calls (load_step n table c d) (after_calls (load_step n table c d) calls)
 run-kept n table c d fine calls loads =
     let after : List ℕ = after_calls (load_step n table c d) calls in

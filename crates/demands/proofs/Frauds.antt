@@ -1,5 +1,6 @@
 -- The frauds that document 01 lists ("What each statement has to say"), and those that hard rows invite: each falls to a stated fact, on an example that
 -- antt computes. The facts are the demands' own records, so that a demand which a fraud could meet would be seen here.
+use Rattle.std.specs.Prelude.{Some, None, Result, Ok, Err}
 use Prim.Native.Nat.{ℕ, zero, suc, ◌<◌, ◌^◌}
 use mathlib.Core.Path.{◌≡◌, refl, sym, ap, ◌∙◌}
 use mathlib.Core.List.{List, [], ◌∷◌, ◌++◌}
@@ -17,12 +18,8 @@ use Rattle.literals.specs.Lits.{no_lits, together, is_empty, same_lits}
 use Rattle.rules.specs.declared.Choice.{Choice}
 use Rattle.rules.specs.declared.Refusal.{Refusal}
 use Rattle.rules.specs.declared.Status.{Status}
-use Rattle.rules.specs.declared.Best.{Best}
 use Rattle.rules.specs.declared.Found.{Found}
 use Rattle.rules.specs.declared.Losses.{Losses}
-use Rattle.rules.specs.declared.Bounded.{Bounded}
-use Rattle.rules.specs.declared.Searched.{Searched}
-use Rattle.rules.specs.declared.Judged.TheVariants.{Fine, Refused}
 use Rattle.rules.specs.Table.{hard_row, is_hard, row_in, row_of, row_count, holds, given_up, breaks, bad_table, bad_lits, bad_mark, bad_weight, row_why, rows_why}
 use Rattle.rules.specs.Table.{sum_too_large, row_words_of}
 use Rattle.rules.specs.Desk.{standing, row_place, entry_place, desk_words, row_on, weight_on, reaches, in_limits, rows_sound, weight_fits, masks_nest}
@@ -53,12 +50,12 @@ abbrev p8 : List ℕ
 p8 = row (x 1 ∷ x 2 ∷ []) 1 ++ row (not-x 2 ∷ []) 1
 
 -- "A refuser of everything falls to 'exactly when'": P2's table must be loaded.
-p2-loads : load_why 1 p2 2 (lent 2) ≡ Fine
+p2-loads : load_why 1 p2 2 (lent 2) ≡ Ok tt
 unfolding load_why desk_words row_place row_count rows_why row_why row_of row_in bad_table bad_lits bad_mark bad_weight is_hard sum_too_large row_words_of lits_of bit_of size
     is_positive no_lits together sum none without below single
 p2-loads = refl
 
-pub no-refuser : (r : Refusal) → load_why 1 p2 2 (lent 2) ≡ Refused r → ⊥
+pub no-refuser : (r : Refusal) → load_why 1 p2 2 (lent 2) ≡ Err r → ⊥
 no-refuser r e = let fine = p2-loads in impossible (cc)
 
 -- "A search that returns one reading falls to P2 and P4": no answer with the all-true reading is that of a finished search on P4's desk.
@@ -67,7 +64,7 @@ unfolding desk_weighs hard_hold_on breaks is_hard every keeps given_up holds row
     lits_of bit_of size is_positive sum bit without none below single
 p4-weighs = (refl, refl, refl, refl)
 
-pub no-one-reading : (f : Found) (w : ℕ) → f.best ≡ Best.Reading w 7 → Finished (desk 3 p4 5) f → ⊥
+pub no-one-reading : (f : Found) (w : ℕ) → f.best ≡ Some (record { weight = w; reading = 7 }) → Finished (desk 3 p4 5) f → ⊥
 no-one-reading f w e g =
     let same : g.reading ≡ 7 = let a = g.answers in cc in
     let heavy : desk_weighs (desk 3 p4 5) 7 ≡ g.weight = ap (desk_weighs (desk 3 p4 5)) (sym same) ∙ g.weighed in
@@ -113,8 +110,8 @@ pub no-idle-taking-back : Kept 2 p8 2 (lent 2) run (desk 2 p8 2) (after_calls (d
 no-idle-taking-back k = omega (arith, k.standing_count, p8-stands.0, p8-stands.1)
 
 -- "A load that solves everything and a walk that pretends fall to the stop rule at budgets 6 and 10", "An invented node count falls to the walk's own".
-abbrev p4-found : Status → ℕ → ℕ → ℕ → Searched
-p4-found status weight reading nodes = Searched.Found (record { status = status; best = Best.Reading weight reading; nodes = nodes })
+abbrev p4-found : Status → ℕ → ℕ → ℕ → Result Found Refusal
+p4-found status weight reading nodes = Ok (record { status = status; best = Some (record { weight = weight; reading = reading }); nodes = nodes })
 
 p4-searched : (searched (desk 3 p4 5) Choice.Units 6 ≡ p4-found Status.Stopped 2 7 6) ×
     (searched (desk 3 p4 5) Choice.Units 10 ≡ p4-found Status.Stopped 1 6 10) × (searched (desk 3 p4 5) Choice.Units 11 ≡ p4-found Status.Done 1 6 11)
@@ -124,34 +121,34 @@ unfolding searched walk_of walk fixed visited kept_at halted undecided at_start 
     below single
 p4-searched = (refl, refl, refl)
 
-pub no-pretended-walk : (f : Found) → (searched (desk 3 p4 5) Choice.Units 6 ≡ Searched.Found f) ⊎ (searched (desk 3 p4 5) Choice.Units 10 ≡ Searched.Found f)
+pub no-pretended-walk : (f : Found) → (searched (desk 3 p4 5) Choice.Units 6 ≡ Ok f) ⊎ (searched (desk 3 p4 5) Choice.Units 10 ≡ Ok f)
     → f.status ≡ Status.Done → ⊥
 no-pretended-walk f (inl e) done = let a = p4-searched.0 in let s : f.status ≡ Status.Stopped = cc in impossible (cc)
 no-pretended-walk f (inr e) done = let a = p4-searched.1 in let s : f.status ≡ Status.Stopped = cc in impossible (cc)
 
-pub no-invented-count : (f : Found) → searched (desk 3 p4 5) Choice.Units 11 ≡ Searched.Found f → f.nodes ≡ 11
+pub no-invented-count : (f : Found) → searched (desk 3 p4 5) Choice.Units 11 ≡ Ok f → f.nodes ≡ 11
 no-invented-count f e = let a = p4-searched.2 in cc
 
 -- a search that says impossible before it has come to the end: two clashing facts take three nodes
-facts-searched : (searched (desk 1 facts 2) Choice.Units 2 ≡ Searched.Found (record { status = Status.Stopped; best = Best.Nothing; nodes = 2 })) ×
-    (searched (desk 1 facts 2) Choice.Units 3 ≡ Searched.Found (record { status = Status.Impossible; best = Best.Nothing; nodes = 3 }))
+facts-searched : (searched (desk 1 facts 2) Choice.Units 2 ≡ Ok (record { status = Status.Stopped; best = None; nodes = 2 })) ×
+    (searched (desk 1 facts 2) Choice.Units 3 ≡ Ok (record { status = Status.Impossible; best = None; nodes = 3 }))
 unfolding searched walk_of walk fixed visited kept_at halted undecided at_start desk_why dead lost_hard is_hard bad_mark bound lost lost_beyond foreseen foreseen_at
     unit_weight weight_where is_empty same_lits decisions satisfied remnant well_formed reaches in_limits rows_sound weight_fits masks_nest weight_on row_on row_in
     row_place desk_words row_count load_step bad_lits row_words_of no_lits lits_of bit_of size is_positive has bit sum every without none below single
 facts-searched = (refl, refl)
 
-pub no-early-impossible : (f : Found) → searched (desk 1 facts 2) Choice.Units 2 ≡ Searched.Found f → f.status ≡ Status.Impossible → ⊥
+pub no-early-impossible : (f : Found) → searched (desk 1 facts 2) Choice.Units 2 ≡ Ok f → f.status ≡ Status.Impossible → ⊥
 no-early-impossible f e none = let a = facts-searched.0 in let s : f.status ≡ Status.Stopped = cc in impossible (cc)
 
 -- "a bound that is always 0" falls "to its definition and P2"
-p2-bound : bounded (desk 1 p2 2) Choice.Units ≡ Bounded.Bound (record { conceded = 0; lost = 0; foreseen = 2 })
+p2-bound : bounded (desk 1 p2 2) Choice.Units ≡ Ok (record { conceded = 0; lost = 0; foreseen = 2 })
 unfolding bounded desk_why losses_at lost_beyond foreseen foreseen_at unit_weight weight_where is_empty same_lits decisions satisfied remnant well_formed
     bad_mark is_hard reaches in_limits rows_sound weight_fits masks_nest weight_on row_on row_in row_place desk_words row_count load_step bad_lits row_words_of no_lits
     together lits_of bit_of size is_positive has bit sum every without none below single
 p2-bound = refl
 
-pub no-zero-bound : (l : Losses) → bounded (desk 1 p2 2) Choice.Units ≡ Bounded.Bound l → total l ≡ 0 → ⊥
+pub no-zero-bound : (l : Losses) → bounded (desk 1 p2 2) Choice.Units ≡ Ok l → total l ≡ 0 → ⊥
 no-zero-bound l e z =
-    let two : Bounded.Bound (record { conceded = 0; lost = 0; foreseen = 2 }) ≡ Bounded.Bound l = sym p2-bound ∙ e in
+    let two : Ok (record { conceded = 0; lost = 0; foreseen = 2 }) ≡ Ok l = sym p2-bound ∙ e in
     let is : record { conceded = 0; lost = 0; foreseen = 2 } ≡ l = cc in
     omega (arith, ap (λ (x : Losses). x.foreseen) is)

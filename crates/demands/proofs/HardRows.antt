@@ -1,4 +1,5 @@
 -- The hard rows of a run. Those of the desk are those of the load (step_laws), and the load's are the table's; a row is broken by its mark and its literals.
+use Rattle.std.specs.Prelude.{Ok}
 use Prim.Native.Nat.{ℕ, ◌≤◌, ◌<◌}
 use mathlib.Core.Path.{◌≡◌, sym, ap, ◌∙◌}
 use mathlib.Core.Logic.{⊎_elim}
@@ -8,7 +9,6 @@ use native.Mathlib.Nat.{le_trans}
 use Rattle.masks.proofs.Choice.{lt-or-le, clash, same_test}
 use Rattle.masks.proofs.Sums.{every-at, every_true}
 use Rattle.rules.specs.declared.Row.{Row}
-use Rattle.rules.specs.declared.Judged.TheVariants.{Fine}
 use Rattle.rules.specs.Table.{row_of, row_count, is_hard, breaks, hard_hold}
 use Rattle.rules.specs.Desk.{in_use, row_on, load_why, load_step, hard_hold_on}
 use Rattle.step_laws.specs.HardRows.{HardStay}
@@ -28,7 +28,7 @@ soft-whole : (r : Row) (full : ℕ) → is_hard r ≡ false → breaks r full �
 unfolding breaks
 soft-whole r full e = rw e
 
-module _ (n : ℕ) (table : List ℕ) (c : ℕ) (d : List ℕ) (fine : load_why n table c d ≡ Fine) (after : List ℕ) (stay : HardStay (load_step n table c d) after) where
+module _ (n : ℕ) (table : List ℕ) (c : ℕ) (d : List ℕ) (fine : load_why n table c d ≡ Ok tt) (after : List ℕ) (stay : HardStay (load_step n table c d) after) where
   use-start : in_use (load_step n table c d) ≡ row_count table
   use-start = loaded-use n table c d (load-fine n table c d fine)
 

@@ -1,6 +1,7 @@
 -- The three numbers of a bound are what is said of them. A row that counts as lost is unsatisfied with an empty remnant, so no reading that keeps the
 -- decisions satisfies it. For any other row there is one that does: the decided truths alone, where the row is satisfied already or its remnant has a
 -- negative literal; else with the remnant's positive literals made true.
+use Rattle.std.specs.Prelude.{Ok}
 use Prim.Native.Nat.{ℕ, ◌^◌, ◌≤◌, ◌<◌}
 use mathlib.Core.Path.{◌≡◌, refl, sym, ap, ◌∙◌, subst}
 use mathlib.Core.Bool.{Bool, true, false, not, ◌&&◌, ◌||◌, or-true}
@@ -16,7 +17,6 @@ use Rattle.literals.proofs.TwoMasks.{masks-empty}
 use Rattle.rules.specs.declared.Choice.{Choice}
 use Rattle.rules.specs.declared.Losses.{Losses}
 use Rattle.rules.specs.declared.Part.{Part}
-use Rattle.rules.specs.declared.Bounded.{Bounded}
 use Rattle.rules.specs.Table.{holds}
 use Rattle.rules.specs.Desk.{variables, in_use, conceded, decided, truths, row_on, well_formed, decisions, satisfied, remnant, desk_weighs, keeps}
 use Rattle.rules.specs.Bound.{weight_where, lost_beyond, losses_at, desk_why}
@@ -133,7 +133,7 @@ losses-are Choice.Units d p = refl
 losses-are Choice.Groups d p = refl
 
 module _ (d : List ℕ) (choice : Choice) (well : well_formed d ≡ true) where
-  pub bound-given : bounded d choice ≡ Bounded.Bound (losses_by choice d (decisions d))
+  pub bound-given : bounded d choice ≡ Ok (losses_by choice d (decisions d))
   unfolding bounded desk_why
   bound-given = rw well
 

@@ -1,5 +1,6 @@
 -- A rewriting, word by word. The step is stores: the named rows get their weights, the new rows are laid behind those in use, the head is set and the
 -- entry is entered; each row is found behind the stores that do not touch it, and so is every word that none of them touches.
+use Rattle.std.specs.Prelude.{Ok}
 use Prim.Native.Nat.{ℕ, suc, ◌+◌, ◌-◌, ◌*◌, ◌≤◌, ◌<◌}
 use mathlib.Core.Path.{◌≡◌, refl, sym, ◌∙◌}
 use mathlib.Core.Logic.{◌⊎◌, inl, inr, ⊎_elim}
@@ -14,7 +15,6 @@ use Rattle.masks.proofs.Sums.{smallest-at}
 use Rattle.literals.specs.declared.Lits.{Lits}
 use Rattle.literals.specs.Lits.{no_lits}
 use Rattle.rules.specs.declared.Refusal.TheVariants.{BadFit, DeskFull}
-use Rattle.rules.specs.declared.Judged.TheVariants.{Fine}
 use Rattle.rules.specs.Refusals.{refuse}
 use Rattle.rules.specs.Table.{marked_row, with_weight}
 use Rattle.rules.specs.Desk.{in_use, capacity, standing, entry_words, row_place, entry_place, row_on}
@@ -37,7 +37,7 @@ use Rattle.demands.specs.Rewritings.{Changes, rows_in_use, steps_standing, conce
 outside : (a b p : ℕ) → (a ≤ p → p < b → ⊥) → (p < a) ⊎ (b ≤ p)
 outside a b p h = ⊎_elim (λ l. inl l) (λ l. ⊎_elim (λ m. absurd (h l m)) (λ m. inr m) (lt-or-le p b)) (lt-or-le p a)
 
-module _ (d : List ℕ) (kind : ℕ) (named : List ℕ) (fine : rewrite_why d kind named ≡ Fine) where
+module _ (d : List ℕ) (kind : ℕ) (named : List ℕ) (fine : rewrite_why d kind named ≡ Ok tt) where
   abbrev w : ℕ
   w = lightest d named
 
@@ -134,7 +134,7 @@ module _ (d : List ℕ) (kind : ℕ) (named : List ℕ) (fine : rewrite_why d ki
 -- what is said behind 13, by what the definitions call fitting
 fitting-in-words : (d : List ℕ) (kind : ℕ) (named : List ℕ) → Formed d → well_named d kind named ≡ true → (fit full : Bool)
     → well_fitted d kind named ≡ fit → ltb (capacity d) (in_use d + length (stored (given d kind named))) ≡ full
-    → Fitting d kind named (refuse (not fit) BadFit (refuse full DeskFull Fine))
+    → Fitting d kind named (refuse (not fit) BadFit (refuse full DeskFull (Ok tt)))
 fitting-in-words d kind named desk ok false full e f = fourteen (λ gives line. clash (words-fitted d kind named desk ok line) e)
 fitting-in-words d kind named desk ok true true e f =
     fifteen (given d kind named) (fitted-words d kind named desk ok e) (ltb-true (capacity d) (in_use d + length (stored (given d kind named))) f)
@@ -147,7 +147,7 @@ judges d kind named =
     record {
       rest =
           refuse (not (well_fitted d kind named)) BadFit
-          (refuse (ltb (capacity d) (in_use d + length (stored (given d kind named)))) DeskFull Fine);
+          (refuse (ltb (capacity d) (in_use d + length (stored (given d kind named)))) DeskFull (Ok tt));
       order = refl;
       in_words = λ desk ok. fitting-in-words d kind named (formed d desk) ok _ _ refl refl;
     }

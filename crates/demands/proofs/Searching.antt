@@ -1,6 +1,7 @@
 -- A search: done, it has the least weight and the first reading of it, of those that satisfy every hard row; impossible, there is none; stopped, it has the
 -- best of the first readings, those in front of the node that was due. All is read off the walk, whose laws hold of any sound bound; here it is the price of
 -- a node by either of the two, for what readings come to, true before false.
+use Rattle.std.specs.Prelude.{Some, Ok}
 use Prim.Native.Nat.{ℕ, ◌+◌, ◌≤◌, ◌<◌}
 use mathlib.Core.Path.{◌≡◌, refl, sym, ap, ◌∙◌, subst}
 use mathlib.Core.List.{List, [], ◌∷◌, ◌++◌, Memᴰ}
@@ -19,9 +20,7 @@ use Rattle.rules.specs.declared.Row.{Row}
 use Rattle.rules.specs.declared.Choice.{Choice}
 use Rattle.rules.specs.declared.Status.{Status}
 use Rattle.rules.specs.declared.Walked.{Walked}
-use Rattle.rules.specs.declared.Best.{Best}
 use Rattle.rules.specs.declared.Found.{Found}
-use Rattle.rules.specs.declared.Searched.{Searched}
 use Rattle.rules.specs.Table.{most_weight, is_hard}
 use Rattle.rules.specs.Desk.{variables, in_use, decided, well_formed, row_on, weight_on, decisions, satisfied, remnant, hard_hold_on, keeps}
 use Rattle.rules.specs.Bound.{lost_hard, dead}
@@ -52,7 +51,7 @@ use Rattle.demands.specs.Searches.{Stopped, StopRule}
 true-first : {a b : ℕ} → Before tried_first a b → TrueFirst a b
 true-first f = record { place = f.place; agree = f.agree; is_true = f.mine; is_false = f.other }
 
-module _ (d : List ℕ) (choice : Choice) (budget : ℕ) (f : Found) (answer : searched d choice budget ≡ Searched.Found f) where
+module _ (d : List ℕ) (choice : Choice) (budget : ℕ) (f : Found) (answer : searched d choice budget ≡ Ok f) where
   pub search-finished : f.status ≡ Status.Done → Finished d f
   search-finished done =
       let w = done-chief d choice budget f answer done in
@@ -195,13 +194,13 @@ best_of_lem d g qs keep c e =
     subst (λ (rs : List Part). Memᴰ leaf rs) (sym l.stands) (mathlib.Core.List.Memᴰ.append_right l.front (mathlib.Core.List.Memᴰ.head refl)) in
     let h = held d leaf.truths (omega (arith, l.less, g.light)) in
     rw (e ∙ l.is_kept)
-    (subst (λ (x : ℕ). BestOf d qs (Best.Reading x leaf.truths)) h.1
+    (subst (λ (x : ℕ). BestOf d qs (Some (record { weight = x; reading = leaf.truths }))) h.1
     (one l.front leaf l.rest l.stands (keep leaf member) h.0
     (λ q m k. omega (arith, l.in_front q m, holding d q.truths k, h.1))
     (λ q m k. omega (arith, l.behind q m, holding d q.truths k, h.1)))))
     (scan-outcome price qs (chosen (at_start d)))
 
-pub search-stopped : (d : List ℕ) (choice : Choice) (budget : ℕ) (f : Found) → searched d choice budget ≡ Searched.Found f → f.status ≡ Status.Stopped
+pub search-stopped : (d : List ℕ) (choice : Choice) (budget : ℕ) (f : Found) → searched d choice budget ≡ Ok f → f.status ≡ Status.Stopped
     → Stopped d choice budget f
 unfolding chosen
 search-stopped d choice budget f answer stop =
@@ -235,7 +234,7 @@ search-stopped d choice budget f answer stop =
 
 -- ---- which of the three
 
-pub search-stop-rule : (d : List ℕ) (choice : Choice) (budget : ℕ) (f : Found) → searched d choice budget ≡ Searched.Found f → StopRule d choice budget f
+pub search-stop-rule : (d : List ℕ) (choice : Choice) (budget : ℕ) (f : Found) → searched d choice budget ≡ Ok f → StopRule d choice budget f
 search-stop-rule d choice budget f answer =
     let done-runs : f.status ≡ Status.Done → f.status ≡ Status.Stopped → ⊥ = λ e q. impossible (cc) in
     let none_runs : f.status ≡ Status.Impossible → f.status ≡ Status.Stopped → ⊥ = λ e q. impossible (cc) in

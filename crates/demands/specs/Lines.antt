@@ -1,15 +1,12 @@
 -- Document 01, "The text" and "Order", of the reader, by the lines of a text: what it says, exactly when. A text's lines, the form and the first line that
 -- breaks it are those of crates/text_laws/specs/Lines.antt; no word here is the reader's own, so that its definition need not be believed.
-use Rattle.std.specs.Prelude.{ℕ, ◌+◌, ◌*◌, ◌≤◌, ◌<◌, ◌≡◌, List, ◌++◌, length, drop}
-use Rattle.rules.specs.declared.TextRead.{TextRead}
+use Rattle.std.specs.Prelude.{ℕ, ◌+◌, ◌*◌, ◌≤◌, ◌<◌, ◌≡◌, List, ◌++◌, length, drop, Ok, Err}
 use Rattle.rules.specs.declared.Refusal.{Refusal}
 use Rattle.rules.specs.declared.Refusal.TheVariants.{BadText}
-use Rattle.rules.specs.declared.Judged.{Judged}
-use Rattle.rules.specs.declared.Judged.TheVariants.{Fine, Refused}
-use Rattle.rules.specs.Refusals.{first_due}
+use Rattle.rules.specs.Refusals.{Judged, first_due}
 use Rattle.rules.specs.Table.{row_count}
 use Rattle.rules.specs.Text.{table_text}
-use Rattle.rules.specs.Reader.{text_read, read_table}
+use Rattle.rules.specs.Reader.{text_read, read_table, text_says}
 use Rattle.rules.specs.Text.{figures_order}
 use Rattle.text_laws.specs.Lines.{ended, line_at, Held, InForm, FirstBroken}
 use Rattle.telling.specs.Told.{by_text_read}
@@ -20,11 +17,11 @@ figures_why most room f = first_due (figures_order most room f.variables f.budge
 
 -- "Reader: first three lines (20), 1, 9, 2, 4, the rest (20)"; "20: text breaks its form; place = line"
 pub data Reads (text : List ℕ) (most room : ℕ) : Judged → Type 0 where
-  head : (k : ℕ) → k ≤ 3 → FirstBroken text k → Reads text most room (Refused (BadText k))
-  figures : (f : InForm text 3) (r : Refusal) → figures_why most room f ≡ Refused r → Reads text most room (Refused r)
-  rest : (f : InForm text 3) → figures_why most room f ≡ Fine → (k : ℕ) → 3 < k → FirstBroken text k → Reads text most room (Refused (BadText k))
+  head : (k : ℕ) → k ≤ 3 → FirstBroken text k → Reads text most room (Err (BadText k))
+  figures : (f : InForm text 3) (r : Refusal) → figures_why most room f ≡ Err r → Reads text most room (Err r)
+  rest : (f : InForm text 3) → figures_why most room f ≡ Ok tt → (k : ℕ) → 3 < k → FirstBroken text k → Reads text most room (Err (BadText k))
   whole : (variables budget : ℕ) (table : List ℕ) → Held variables budget table → text ≡ table_text variables budget table
-      → first_due (figures_order most room variables budget (row_count table)) ≡ Fine → Reads text most room Fine
+      → first_due (figures_order most room variables budget (row_count table)) ≡ Ok tt → Reads text most room (Ok tt)
 
 pub record ByLines : Type 0 where
   -- "The first line that breaks the form is the place, counted from 1"
@@ -38,6 +35,6 @@ pub record ByLines : Type 0 where
       → FirstBroken (table_text variables budget table ++ more) (4 + 3 * row_count table)
   -- "it judges neither weights nor literals against the count": whatever the form holds is read, within the limits of its figures
   pub reads_held : (most variables budget : ℕ) (table lent : List ℕ) → Held variables budget table
-      → first_due (figures_order most (length lent) variables budget (row_count table)) ≡ Fine
-      → (text_read most (table_text variables budget table) (length lent) ≡ TextRead.Table variables budget (row_count table))
+      → first_due (figures_order most (length lent) variables budget (row_count table)) ≡ Ok tt
+      → (text_read most (table_text variables budget table) (length lent) ≡ Ok (text_says variables budget (row_count table)))
       × (read_table most (table_text variables budget table) lent ≡ table ++ drop (length table) lent)

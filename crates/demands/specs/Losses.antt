@@ -1,11 +1,10 @@
 -- Document 02, C-12: "Say where the bound comes from." What each of the three numbers is that the bound of a desk answers, by either bound (C-14). The
 -- first two are certain: every reading that keeps the standing decisions gives up that much. The third is what may be seen coming.
-use Rattle.std.specs.Prelude.{ℕ, ◌≤◌, ◌<◌, ◌≡◌, Bool, true, false, cond, List}
+use Rattle.std.specs.Prelude.{ℕ, ◌≤◌, ◌<◌, ◌≡◌, Bool, true, false, cond, List, Ok}
 use Rattle.masks.specs.Sums.{sum}
 use Rattle.rules.specs.declared.Choice.{Choice}
 use Rattle.rules.specs.declared.Losses.{Losses}
 use Rattle.rules.specs.declared.Part.{Part}
-use Rattle.rules.specs.declared.Bounded.{Bounded}
 use Rattle.rules.specs.Table.{holds}
 use Rattle.rules.specs.Desk.{in_use, conceded, row_on, decisions, desk_weighs, keeps}
 use Rattle.rules.specs.Bound.{foreseen, certain, total}
@@ -46,4 +45,4 @@ pub record Explained (d : List ℕ) (choice : Choice) (l : Losses) : Type 0 wher
 
 -- of every desk for which there is a bound
 abbrev pub LossesExplained : Type 0
-LossesExplained = (d : List ℕ) (choice : Choice) (l : Losses) → bounded d choice ≡ Bounded.Bound l → Explained d choice l
+LossesExplained = (d : List ℕ) (choice : Choice) (l : Losses) → bounded d choice ≡ Ok l → Explained d choice l

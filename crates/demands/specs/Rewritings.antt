@@ -1,11 +1,10 @@
 -- Demand 2 of a rewriting: the step table of document 01 and the paragraph above it, of the desk before and after, word by word.
+use Rattle.std.specs.Prelude.{Ok, Err}
 use Rattle.std.specs.Prelude.{ℕ, suc, ◌+◌, ◌-◌, ◌*◌, ◌≤◌, ◌<◌, ◌≡◌, List, [], ◌∷◌, ◌++◌, true, not, leb, length, get_or, take, drop, replicate}
 use Rattle.literals.specs.declared.Lits.{Lits}
 use Rattle.literals.specs.Lits.{no_lits}
-use Rattle.rules.specs.declared.Judged.{Judged}
-use Rattle.rules.specs.declared.Judged.TheVariants.{Fine, Refused}
 use Rattle.rules.specs.declared.Refusal.TheVariants.{BadDesk, TooManySteps, BadNaming, BadFit, DeskFull}
-use Rattle.rules.specs.Refusals.{◌when◌, as_in, first_due}
+use Rattle.rules.specs.Refusals.{Judged, ◌when◌, as_in, first_due}
 use Rattle.rules.specs.Table.{marked_row, with_weight}
 use Rattle.rules.specs.Desk.{in_use, capacity, standing, conceded, most_steps, row_place, entry_place, row_on, well_formed}
 use Rattle.rules.specs.Steps.{well_named, stored, empties}
@@ -14,9 +13,9 @@ use Rattle.step_laws.specs.StepTable.{FitsALine}
 -- "14: a named row spent or satisfied, or the remnants don't fit"; "Rewritings refuse hard rows with 14"; "15: the new rows don't fit the desk", in the
 -- words of the step table
 pub data Fitting (d : List ℕ) (kind : ℕ) (named : List ℕ) : Judged → Type 0 where
-  fourteen : ((gives : List Lits) → FitsALine d kind named gives → ⊥) → Fitting d kind named (Refused BadFit)
-  fifteen : (gives : List Lits) → FitsALine d kind named gives → capacity d < in_use d + length (stored gives) → Fitting d kind named (Refused DeskFull)
-  neither : (gives : List Lits) → FitsALine d kind named gives → in_use d + length (stored gives) ≤ capacity d → Fitting d kind named Fine
+  fourteen : ((gives : List Lits) → FitsALine d kind named gives → ⊥) → Fitting d kind named (Err BadFit)
+  fifteen : (gives : List Lits) → FitsALine d kind named gives → capacity d < in_use d + length (stored gives) → Fitting d kind named (Err DeskFull)
+  neither : (gives : List Lits) → FitsALine d kind named gives → in_use d + length (stored gives) ≤ capacity d → Fitting d kind named (Ok tt)
 
 -- "Rewriting: 10, 11, 13, 14, 15."
 pub record Judging (d : List ℕ) (kind : ℕ) (named : List ℕ) (why : Judged) : Type 0 where

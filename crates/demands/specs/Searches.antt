@@ -1,6 +1,6 @@
 -- Demand 2 of a search, by either bound: what an answer owes that says done, impossible or stopped, and when it says which. Document 02, C-16: 'In demand 2
 -- "all readings" becomes those that satisfy every hard row'.
-use Rattle.std.specs.Prelude.{ℕ, suc, ◌+◌, ◌^◌, ◌≤◌, ◌<◌, ◌≡◌, true, false, ◌⊎◌, ◌↔◌, length, take}
+use Rattle.std.specs.Prelude.{ℕ, suc, ◌+◌, ◌^◌, ◌≤◌, ◌<◌, ◌≡◌, true, false, ◌⊎◌, ◌↔◌, length, take, Option, Some, None, Ok}
 use mathlib.Core.List.{List, ◌∷◌, ◌++◌, Memᴰ}
 use Rattle.masks.specs.Masks.{has}
 use Rattle.literals.specs.Lits.{is_empty}
@@ -9,7 +9,6 @@ use Rattle.rules.specs.declared.Status.{Status}
 use Rattle.rules.specs.declared.Choice.{Choice}
 use Rattle.rules.specs.declared.Best.{Best}
 use Rattle.rules.specs.declared.Found.{Found}
-use Rattle.rules.specs.declared.Searched.{Searched}
 use Rattle.rules.specs.Table.{is_hard}
 use Rattle.rules.specs.Desk.{variables, in_use, decided, row_on, weight_on, decisions, satisfied, remnant, desk_weighs, hard_hold_on, keeps}
 use Rattle.rules.specs.Choice.{bound_by}
@@ -30,7 +29,7 @@ pub record TrueFirst (one other : ℕ) : Type 0 where
 pub record Finished (d : List ℕ) (f : Found) : Type 0 where
   pub weight : ℕ
   pub reading : ℕ
-  pub answers : f.best ≡ Best.Reading weight reading
+  pub answers : f.best ≡ Some (record { weight = weight; reading = reading })
   pub kept : keeps d reading ≡ true
   pub held : hard_hold_on d reading ≡ true
   pub weighed : desk_weighs d reading ≡ weight
@@ -39,7 +38,7 @@ pub record Finished (d : List ℕ) (f : Found) : Type 0 where
 
 -- "A finished search with no reading answers `status=impossible`, weight and reading none": each that keeps the standing decisions breaks a hard row
 pub record NoReading (d : List ℕ) (f : Found) : Type 0 where
-  pub answers : f.best ≡ Best.Nothing
+  pub answers : f.best ≡ None
   pub none_holds : (other : ℕ) → keeps d other ≡ true → hard_hold_on d other ≡ false
 
 -- a reading that keeps the standing decisions and satisfies every hard row
@@ -82,13 +81,13 @@ pub record InOrder (d : List ℕ) : Type 0 where
 
 -- the best of some readings: none where each breaks a hard row, else one that satisfies every hard row and, of those that do so, weighs less than each
 -- before it and no more than each behind it
-pub data BestOf (d : List ℕ) (readings : List Part) : Best → Type 0 where
-  nothing : ((q : Part) → Memᴰ q readings → hard_hold_on d q.truths ≡ false) → BestOf d readings Best.Nothing
+pub data BestOf (d : List ℕ) (readings : List Part) : Option Best → Type 0 where
+  nothing : ((q : Part) → Memᴰ q readings → hard_hold_on d q.truths ≡ false) → BestOf d readings None
   one : (front : List Part) (best : Part) (rest : List Part) → readings ≡ front ++ (best ∷ rest) → keeps d best.truths ≡ true
       → hard_hold_on d best.truths ≡ true
       → ((q : Part) → Memᴰ q front → hard_hold_on d q.truths ≡ true → desk_weighs d best.truths < desk_weighs d q.truths)
       → ((q : Part) → Memᴰ q rest → hard_hold_on d q.truths ≡ true → desk_weighs d best.truths ≤ desk_weighs d q.truths)
-      → BestOf d readings (Best.Reading (desk_weighs d best.truths) best.truths)
+      → BestOf d readings (Some (record { weight = desk_weighs d best.truths; reading = best.truths }))
 
 -- "the best reading that document 01's walk met by that count", or none if it met none, each of which satisfies every hard row; and the best of all the
 -- first n readings in the walk's order, those in front of the node that was due, whether the walk met them or cut them unseen. Some are left.
@@ -104,12 +103,12 @@ pub record Stopped (d : List ℕ) (choice : Choice) (budget : ℕ) (f : Found) :
 -- That a node was due is seen by searching the same desk by the same bound with a larger budget, g: it is entered then.
 pub record StopRule (d : List ℕ) (choice : Choice) (budget : ℕ) (f : Found) : Type 0 where
   pub within : f.nodes ≤ budget
-  pub stopped_when : (more : ℕ) (g : Found) → budget < more → searched d choice more ≡ Searched.Found g → (f.status ≡ Status.Stopped) ↔ (budget < g.nodes)
-  pub done_when : (more : ℕ) (g : Found) → budget < more → searched d choice more ≡ Searched.Found g
+  pub stopped_when : (more : ℕ) (g : Found) → budget < more → searched d choice more ≡ Ok g → (f.status ≡ Status.Stopped) ↔ (budget < g.nodes)
+  pub done_when : (more : ℕ) (g : Found) → budget < more → searched d choice more ≡ Ok g
       → (f.status ≡ Status.Done) ↔ ((g.nodes ≤ budget) × SomeHolds d)
-  pub impossible_when : (more : ℕ) (g : Found) → budget < more → searched d choice more ≡ Searched.Found g
+  pub impossible_when : (more : ℕ) (g : Found) → budget < more → searched d choice more ≡ Ok g
       → (f.status ≡ Status.Impossible) ↔ ((g.nodes ≤ budget) × NoneHolds d)
   -- a search that is not stopped is the same with any larger budget
-  pub same : (more : ℕ) (g : Found) → budget ≤ more → searched d choice more ≡ Searched.Found g → (f.status ≡ Status.Stopped → ⊥) → g ≡ f
+  pub same : (more : ℕ) (g : Found) → budget ≤ more → searched d choice more ≡ Ok g → (f.status ≡ Status.Stopped → ⊥) → g ≡ f
   -- with u variables undecided there are fewer than 2 ^ (u + 1) nodes, so that with such a budget it is not stopped
   pub few : f.nodes < 2 ^ suc (length (undecided (variables d) (decided d)))

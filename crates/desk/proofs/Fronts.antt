@@ -1,4 +1,5 @@
 -- Head and rows of a desk with room for just those rows: it is judged as their table is, and made by storing the head.
+use Rattle.std.specs.Prelude.{Ok, Err}
 use Prim.Native.Nat.{ℕ, ◌+◌, ◌-◌, ◌*◌, ◌%◌, ◌≤◌}
 use mathlib.Core.Path.{◌≡◌, refl, sym, ap, ◌∙◌}
 use mathlib.Core.List.{List, [], ◌∷◌, ◌++◌}
@@ -10,8 +11,7 @@ use lib.Dec.{eqb, ltb}
 use borrow.Author.Tests.{ltb-false, le-ltb}
 use Rattle.masks.proofs.Choice.{or_right}
 use Rattle.rules.specs.declared.Refusal.{Refusal}
-use Rattle.rules.specs.declared.Judged.{Judged}
-use Rattle.rules.specs.declared.Judged.TheVariants.{Fine, Refused}
+use Rattle.rules.specs.Refusals.{Judged}
 use Rattle.rules.specs.Table.{row_words, most_rows, row_count, bad_table, table_why}
 use Rattle.rules.specs.Desk.{head_words, most_capacity, most_steps, entry_words, row_place, desk_words, load_why, load_step}
 use Rattle.rules.proofs.Judging.{words-fine, words-refused}
@@ -61,16 +61,16 @@ module _ (n rows : ℕ) (words : List ℕ) (long : length words ≡ head_words +
       ∙ ap (λ (m : ℕ). take (row_place rows) ((n ∷ m ∷ rows ∷ 0 ∷ 0 ∷ 0 ∷ 0 ∷ m ∷ []) ++ (table ++ (none ++ past)))) (sym front-count)
 
   -- what storing makes of them, refused or fine
-  pub front-refused : (j : Judged) (r : Refusal) → j ≡ table_why n (take (length words - head_words) (drop head_words words)) → j ≡ Refused r
+  pub front-refused : (j : Judged) (r : Refusal) → j ≡ table_why n (take (length words - head_words) (drop head_words words)) → j ≡ Err r
       → (j ≡ front_why n rows words) × (words ≡ front_desk n rows words)
   unfolding front_desk
   front-refused j r why e =
-      let f : front_why n rows words ≡ Refused r = sym (why ∙ front-judged) ∙ e in
+      let f : front_why n rows words ≡ Err r = sym (why ∙ front-judged) ∙ e in
       (why ∙ front-judged, sym (words-refused (front_why n rows words) (front_step n rows words) words r f))
 
-  pub front-fine : (j : Judged) (after : List ℕ) → j ≡ table_why n (take (length words - head_words) (drop head_words words)) → j ≡ Fine
-      → after ≡ sets words 0 (head_for n rows rows) → (Fine ≡ front_why n rows words) × (after ≡ front_desk n rows words)
+  pub front-fine : (j : Judged) (after : List ℕ) → j ≡ table_why n (take (length words - head_words) (drop head_words words)) → j ≡ Ok tt
+      → after ≡ sets words 0 (head_for n rows rows) → ((Ok tt) ≡ front_why n rows words) × (after ≡ front_desk n rows words)
   unfolding front_desk
   front-fine j after why e laid =
-      let f : front_why n rows words ≡ Fine = sym (why ∙ front-judged) ∙ e in
+      let f : front_why n rows words ≡ (Ok tt) = sym (why ∙ front-judged) ∙ e in
       (sym f, laid ∙ front-laid ∙ sym (words-fine (front_why n rows words) (front_step n rows words) words f))

@@ -1,7 +1,6 @@
 -- Head and rows of a desk with room for just those rows. Its rows stand behind the head; the entry words, which load leaves 0, are not there.
 use Rattle.std.specs.Prelude.{ℕ, List, take, drop, replicate}
-use Rattle.rules.specs.declared.Judged.{Judged}
-use Rattle.rules.specs.Refusals.{unless_refused}
+use Rattle.rules.specs.Refusals.{Judged, unless_refused}
 use Rattle.rules.specs.Desk.{head_words, row_place, desk_words, load_why, load_step}
 
 -- the rows, loaded onto a whole desk of 0

@@ -5,19 +5,16 @@ ghost use Rattle.rules.specs.Desk.{head_words};
 ghost use Rattle.desk.specs.Front.{front_why, front_desk};
 
 use crate::lay::lay_head;
-use rules::{Desk, Judged};
+use rules::{Desk, Refusal};
 use tables::table_why;
 
 // The rows behind the head, loaded where they stand. Such a desk has neither 3 nor 4 to refuse for.
-pub fn load_front(variables: u64, rows: u64, words: &mut [u64]) -> Judged
+pub fn load_front(variables: u64, rows: u64, words: &mut [u64]) -> Result<(), Refusal>
     requires { length words.old ≡ head_words + row_words * rows }
     ensures value { result ≡ front_why variables rows words.old }
     ensures words_after { words.new ≡ front_desk variables rows words.old }
 {
-    let why = table_why(variables, &words[Desk::HEAD..]);
-    let Judged::Fine = why else {
-        return why;
-    };
+    table_why(variables, &words[Desk::HEAD..])?;
     lay_head(variables, rows, rows, words);
-    Judged::Fine
+    Ok(())
 }

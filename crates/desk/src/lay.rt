@@ -6,37 +6,34 @@ ghost use Rattle.rules.specs.Desk.{head_words, most_capacity, desk_words, load_w
 ghost use Rattle.desk.specs.Lay.{head_for};
 
 use literals::Literal;
-use rules::{Desk, Entry, Judged, Refusal, Row};
+use rules::{Desk, Entry, Refusal, Row};
 use tables::{bad_table, rows_and_sum};
 use words::inner::zero;
 
 // A table onto a desk with room for C rows.
-pub fn load(variables: u64, table: &[u64], capacity: u64, desk: &mut [u64]) -> Judged
+pub fn load(variables: u64, table: &[u64], capacity: u64, desk: &mut [u64]) -> Result<(), Refusal>
     ensures value { result ≡ load_why variables table.now capacity desk.old }
     ensures desk_after { desk.new ≡ load_desk variables table.now capacity desk.old }
 {
-    let why = load_why(variables, table, capacity, desk);
-    let Judged::Fine = why else {
-        return why;
-    };
+    load_why(variables, table, capacity, desk)?;
     lay(variables, table, capacity, desk);
-    Judged::Fine
+    Ok(())
 }
 
-fn load_why(variables: u64, table: &[u64], capacity: u64, desk: &[u64]) -> Judged
+fn load_why(variables: u64, table: &[u64], capacity: u64, desk: &[u64]) -> Result<(), Refusal>
     ensures { result ≡ load_why variables table.now capacity desk.now }
 {
     if variables > Literal::MOST {
-        return Judged::Refused(Refusal::TooManyVariables);
+        return Err(Refusal::TooManyVariables);
     }
     if bad_table(table) {
-        return Judged::Refused(Refusal::BadTable);
+        return Err(Refusal::BadTable);
     }
     if (capacity < (table.len() / Row::WORDS) as u64) | (capacity > Desk::MOST_CAPACITY) {
-        return Judged::Refused(Refusal::BadCapacity);
+        return Err(Refusal::BadCapacity);
     }
     if desk.len() < desk_words(capacity) {
-        return Judged::Refused(Refusal::NoRoom);
+        return Err(Refusal::NoRoom);
     }
     rows_and_sum(variables, table)
 }

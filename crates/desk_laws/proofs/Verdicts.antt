@@ -1,5 +1,6 @@
 -- What an accepted call says: none of its tests held. A call's refusals come in order, so each law takes the first test off.
 -- The facts of an accepted decision and of an accepted rewriting follow, as records of plain facts.
+use Rattle.std.specs.Prelude.{Ok}
 use Prim.Native.Nat.{ℕ, ◌+◌, ◌-◌, ◌≤◌, ◌<◌}
 use mathlib.Core.Path.{◌≡◌}
 use mathlib.Core.Bool.{Bool, true, false, not, ◌&&◌, ◌||◌}
@@ -15,9 +16,7 @@ use Rattle.masks.proofs.Sums.{every-at}
 use Rattle.literals.specs.Literal.{size, is_literal}
 use Rattle.rules.specs.declared.Row.{Row}
 use Rattle.rules.specs.declared.Refusal.TheVariants.{BadDesk, TooManySteps, BadLiteral, BadNaming, BadFit, DeskFull}
-use Rattle.rules.specs.declared.Judged.{Judged}
-use Rattle.rules.specs.declared.Judged.TheVariants.{Fine}
-use Rattle.rules.specs.Refusals.{refuse}
+use Rattle.rules.specs.Refusals.{Judged, refuse}
 use Rattle.rules.specs.Desk.{variables, in_use, capacity, standing, decided, most_steps, well_formed, decisions, satisfied, row_on, spent}
 use Rattle.rules.specs.Table.{is_hard}
 use Rattle.rules.specs.Decide.{bad_literal, decide_why}
@@ -36,13 +35,13 @@ pub record Decided (d : List ℕ) (l : ℤ) : Type 0 where
   pub counted : size l ≤ variables d
   pub fresh : has (decided d) (size l - 1) ≡ false
 
-pub decide-fine : (d : List ℕ) (l : ℤ) → decide_why d l ≡ Fine → Decided d l
+pub decide-fine : (d : List ℕ) (l : ℤ) → decide_why d l ≡ Ok tt → Decided d l
 unfolding decide_why bad_literal
 decide-fine d l e =
     let bad : Bool = bad_literal d l in
-    let a = refuse-fine (not (well_formed d)) BadDesk (refuse (leb most_steps (standing d)) TooManySteps (refuse bad BadLiteral Fine)) e in
-    let b = refuse-fine (leb most_steps (standing d)) TooManySteps (refuse bad BadLiteral Fine) a.1 in
-    let c = or-none (not (is_literal l)) (ltb (variables d) (size l) || has (decided d) (size l - 1)) (refuse-fine bad BadLiteral Fine b.1).0 in
+    let a = refuse-fine (not (well_formed d)) BadDesk (refuse (leb most_steps (standing d)) TooManySteps (refuse bad BadLiteral (Ok tt))) e in
+    let b = refuse-fine (leb most_steps (standing d)) TooManySteps (refuse bad BadLiteral (Ok tt)) a.1 in
+    let c = or-none (not (is_literal l)) (ltb (variables d) (size l) || has (decided d) (size l - 1)) (refuse-fine bad BadLiteral (Ok tt) b.1).0 in
     let f = or-none (ltb (variables d) (size l)) (has (decided d) (size l - 1)) c.1 in
     record {
       desk = formed d (not-false (well_formed d) a.0);
@@ -73,7 +72,7 @@ pub record Rewritten (d : List ℕ) (kind : ℕ) (named : List ℕ) : Type 0 whe
   pub fitted : fits kind (length named) (remnant_of d named) ≡ true
   pub space : in_use d + length (stored (given d kind named)) ≤ capacity d
 
-pub rewrite-fine : (d : List ℕ) (kind : ℕ) (named : List ℕ) → rewrite_why d kind named ≡ Fine → Rewritten d kind named
+pub rewrite-fine : (d : List ℕ) (kind : ℕ) (named : List ℕ) → rewrite_why d kind named ≡ Ok tt → Rewritten d kind named
 unfolding rewrite_why well_named well_fitted
 rewrite-fine d kind named e =
     let n : ℕ = length named in
@@ -83,14 +82,14 @@ rewrite-fine d kind named e =
     let used : Bool = every n (λ i. ltb (get_or named i 0) (in_use d)) in
     let apart : Bool = distinct n (λ i. get_or named i 0) in
     let name : Bool = leb 1 kind && (leb kind 4 && (count_fits kind n && (used && apart))) in
-    let last : Judged = refuse full DeskFull Fine in
+    let last : Judged = refuse full DeskFull (Ok tt) in
     let a =
     refuse-fine (not (well_formed d)) BadDesk
     (refuse (leb most_steps (standing d)) TooManySteps (refuse (not name) BadNaming (refuse (not fit) BadFit last))) e in
     let b = refuse-fine (leb most_steps (standing d)) TooManySteps (refuse (not name) BadNaming (refuse (not fit) BadFit last)) a.1 in
     let c = refuse-fine (not name) BadNaming (refuse (not fit) BadFit last) b.1 in
     let f = refuse-fine (not fit) BadFit last c.1 in
-    let g = refuse-fine full DeskFull Fine f.1 in
+    let g = refuse-fine full DeskFull (Ok tt) f.1 in
     let names = not-false name c.0 in
     let n1 = and_right (leb 1 kind) (leb kind 4 && (count_fits kind n && (used && apart))) names in
     let n2 = and_right (leb kind 4) (count_fits kind n && (used && apart)) n1 in

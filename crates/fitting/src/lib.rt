@@ -11,29 +11,29 @@ use formed::well_formed;
 use kinds::count_fits;
 use named::{all_below, repeated};
 use remnants::inner::{added, follow, merges, remnant_of, shows};
-use rules::{Desk, Entry, Judged, Part, Refusal, word};
+use rules::{Desk, Entry, Part, Refusal, word};
 use values::{is_hard, satisfied};
 use words::inner::row_on;
 
-pub fn rewrite_why(desk: &[u64], kind: u64, named: &[u64]) -> Judged
+pub fn rewrite_why(desk: &[u64], kind: u64, named: &[u64]) -> Result<(), Refusal>
     ensures { result ≡ rewrite_why desk.now kind named.now }
 {
     if !well_formed(desk) {
-        return Judged::Refused(Refusal::BadDesk);
+        return Err(Refusal::BadDesk);
     }
     if Desk::MOST_STEPS <= word(desk, Desk::STANDING) {
-        return Judged::Refused(Refusal::TooManySteps);
+        return Err(Refusal::TooManySteps);
     }
     if !well_named(desk, kind, named) {
-        return Judged::Refused(Refusal::BadNaming);
+        return Err(Refusal::BadNaming);
     }
     if !well_fitted(desk, kind, named) {
-        return Judged::Refused(Refusal::BadFit);
+        return Err(Refusal::BadFit);
     }
     if word(desk, Desk::CAPACITY) < word(desk, Desk::IN_USE) + added(desk, kind, named) {
-        return Judged::Refused(Refusal::DeskFull);
+        return Err(Refusal::DeskFull);
     }
-    Judged::Fine
+    Ok(())
 }
 
 // A known kind, the right count of rows, all in use, none named twice.

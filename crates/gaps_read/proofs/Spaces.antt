@@ -1,4 +1,5 @@
 -- Spaces and ends of lines, turn by turn: a turn that finds one, a turn that does not, and where the text ends.
+use Rattle.std.specs.Prelude.{None}
 use Prim.Native.Nat.{ℕ, zero, suc, ◌+◌, ◌-◌, ◌≤◌, ◌<◌}
 use mathlib.Core.Path.{◌≡◌, refl, ap, ◌∙◌}
 use mathlib.Core.Logic.{⊎_elim}
@@ -8,7 +9,6 @@ use borrow.Author.Tests.{eq-eqb, ne_eqb, eqb-true}
 use lib.Dec.{eqb}
 use lib.ListN.{length, get_or, get_or-eq_default}
 use Rattle.masks.proofs.Choice.{cases, lt-or-le, clash}
-use Rattle.rules.specs.declared.Parsed.{Parsed}
 use Rattle.rules.specs.Text.{space, line_feed}
 use Rattle.rules.specs.Reader.{number_at}
 use Rattle.rules.specs.WcnfReader.{space_run, parted_at, feed_from}
@@ -64,7 +64,7 @@ run-turn s at place all low high e h =
 -- ---- a number with a gap in front
 
 module _ (s : List ℕ) (at : ℕ) where
-  pub parted-not : space_run s at (length s) ≡ 0 → parted_at s at ≡ Parsed.Broken
+  pub parted-not : space_run s at (length s) ≡ 0 → parted_at s at ≡ None
   unfolding parted_at
   parted-not e = rw (eq-eqb (space_run s at (length s)) 0 e)
 

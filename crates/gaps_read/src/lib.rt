@@ -4,7 +4,6 @@
 ghost use Rattle.std.specs.Prelude.{◌≡◌, ◌-◌, length};
 ghost use Rattle.rules.specs.WcnfReader.{space_run, parted_at, feed_from};
 
-use rules::Parsed;
 
 // How many spaces stand from the place on.
 pub fn space_run(s: &[u8], at: usize) -> usize
@@ -20,13 +19,13 @@ pub fn space_run(s: &[u8], at: usize) -> usize
     place - at
 }
 
-// A number with a gap in front.
-pub fn parted_at(s: &[u8], at: usize) -> Parsed
+// A number with a gap in front, and the place behind it.
+pub fn parted_at(s: &[u8], at: usize) -> Option<(u64, usize)>
     ensures { result ≡ parted_at s.now at }
 {
     let gap = space_run(s, at);
     if gap == 0 {
-        return Parsed::Broken;
+        return None;
     }
     let from = at + gap;
     pieces_read::number_at(s, from)

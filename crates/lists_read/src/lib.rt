@@ -7,53 +7,35 @@ ghost use Rattle.literals.specs.Lits.{no_lits};
 ghost use Rattle.rules.specs.Reader.{number_at, literal_of, literal_at, lits_from};
 ghost use Rattle.lists_read.specs.Literals.{literal_read};
 
-use literals::{Literal, Lits, Offered};
+use literals::{Literal, Lits};
 use pieces_read::{byte_at, number_at};
-use rules::{Listed, Parsed};
 
-// A literal of a text and the place behind it.
-#[derive(Clone, Copy)]
-pub enum LiteralRead {
-    Literal { literal: Literal, next: usize },
-    Broken,
-}
-
-// The literal of the variable whose number stands at the place, above the last.
-fn variable_at(s: &[u8], from: usize, last: u64) -> LiteralRead
+// The literal of the variable whose number stands at the place, above the last, and the place behind it.
+fn variable_at(s: &[u8], from: usize, last: u64) -> Option<(Literal, usize)>
     ensures { result ≡ literal_read (literal_of true last (number_at s.now from)) }
 {
-    let Parsed::Number { value, next } = number_at(s, from) else {
-        return LiteralRead::Broken;
-    };
-    let Offered::Fine(literal) = Literal::new(value as i64) else {
-        return LiteralRead::Broken;
-    };
+    let (value, next) = number_at(s, from)?;
+    let literal = Literal::new(value as i64)?;
     if last < value {
-        LiteralRead::Literal { literal, next }
+        Some((literal, next))
     } else {
-        LiteralRead::Broken
+        None
     }
 }
 
 // A minus stands before a negative one, which is the opposite of the literal behind it.
-fn literal_at(s: &[u8], at: usize, last: u64) -> LiteralRead
+fn literal_at(s: &[u8], at: usize, last: u64) -> Option<(Literal, usize)>
     ensures { result ≡ literal_read (literal_at s.now at last) }
 {
     if byte_at(s, at) != b'-' {
         return variable_at(s, at, last);
     }
-    let LiteralRead::Literal { literal, next } = variable_at(s, at + 1, last) else {
-        return LiteralRead::Broken;
-    };
-    let opposite = literal.negated();
-    LiteralRead::Literal {
-        literal: opposite,
-        next,
-    }
+    let (literal, next) = variable_at(s, at + 1, last)?;
+    Some((literal.negated(), next))
 }
 
 // The literals from a place to the line's end. There can be one for each variable, so that the turns are counted.
-pub fn lits_from(s: &[u8], from: usize) -> Listed
+pub fn lits_from(s: &[u8], from: usize) -> Option<(Lits, usize)>
     ensures { result ≡ lits_from (suc most_variables) s.now from 0 no_lits }
 {
     let mut lits = Lits::none();
@@ -63,22 +45,19 @@ pub fn lits_from(s: &[u8], from: usize) -> Listed
     while i <= Literal::MOST {
         let b = byte_at(s, at);
         if b == b'\n' {
-            let next = at + 1;
-            return Listed::Literals { lits, next };
+            return Some((lits, at + 1));
         }
         if last != 0 {
             if b != b' ' {
-                return Listed::Broken;
+                return None;
             }
             at += 1;
         }
-        let LiteralRead::Literal { literal, next } = literal_at(s, at, last) else {
-            return Listed::Broken;
-        };
+        let (literal, next) = literal_at(s, at, last)?;
         lits = lits.together(literal.lits());
         last = literal.size();
         at = next;
         i += 1;
     }
-    Listed::Broken
+    None
 }

@@ -1,34 +1,34 @@
 -- The definitions at the limits that document 01 names, by computing.
 -- Literals run from -64 to 64 without 0; bit v - 1 stands for variable v. `negsuc n` is -(n + 1).
+use Rattle.std.specs.Prelude.{Some, None}
 use Prim.Native.Nat.{◌^◌}
 use mathlib.Core.Path.{◌≡◌, refl}
 use lib.IntN.{pos, negsuc}
 use Rattle.masks.specs.Masks.{single}
 use Rattle.literals.specs.Literal.{size, is_positive, is_literal, opposite, bit_of, lits_of, offered}
-use Rattle.literals.specs.declared.Offered.TheVariants.{Fine, Refused}
 
 -- which numbers are literals
-largest : offered (pos 64) ≡ Fine (record { value = pos 64 })
+largest : offered (pos 64) ≡ Some (record { value = pos 64 })
 unfolding size is_literal offered
 largest = refl
 
-smallest : offered (negsuc 63) ≡ Fine (record { value = negsuc 63 })
+smallest : offered (negsuc 63) ≡ Some (record { value = negsuc 63 })
 unfolding size is_literal offered
 smallest = refl
 
-too_large : offered (pos 65) ≡ Refused
+too_large : offered (pos 65) ≡ None
 unfolding size is_literal offered
 too_large = refl
 
-too_small : offered (negsuc 64) ≡ Refused
+too_small : offered (negsuc 64) ≡ None
 unfolding size is_literal offered
 too_small = refl
 
-zero-refused : offered (pos 0) ≡ Refused
+zero-refused : offered (pos 0) ≡ None
 unfolding size is_literal offered
 zero-refused = refl
 
-least-of-type : offered (negsuc 9223372036854775807) ≡ Refused
+least-of-type : offered (negsuc 9223372036854775807) ≡ None
 unfolding size is_literal offered
 least-of-type = refl
 

@@ -1,11 +1,10 @@
 -- A literal is a signed number, never 0, up to `most_variables` either way. Its size is its variable, and its negation is the other sign.
 -- All definitions are total: a number that is no literal has a size and a sign too, and is its own opposite.
-use Rattle.std.specs.Prelude.{ℕ, ◌-◌, Bool, cond, ◌&&◌, eqb, leb, ℤ, pos, neg_ℤ, nat_abs}
+use Rattle.std.specs.Prelude.{ℕ, ◌-◌, Bool, cond, ◌&&◌, eqb, leb, ℤ, pos, neg_ℤ, nat_abs, Option, Some, None}
 use Rattle.std.specs.Int.Signed.{lt_z}
 use Rattle.masks.specs.Masks.{single}
-use Rattle.literals.specs.declared.Offered.{Offered}
-use Rattle.literals.specs.declared.Offered.TheVariants.{Fine, Refused}
 use Rattle.literals.specs.declared.Lits.{Lits}
+use Rattle.literals.specs.declared.Literal.{Literal}
 
 -- how many variables there can be; they are numbered from 1
 abbrev pub most_variables : ℕ
@@ -35,5 +34,5 @@ unfoldable pub lits_of : ℤ → Lits
 lits_of z = record { positive = cond (is_positive z) (bit_of z) 0; negative = cond (is_positive z) 0 (bit_of z) }
 
 -- what is no literal is refused
-unfoldable pub offered : ℤ → Offered
-offered z = cond (is_literal z) (Fine (record { value = z })) Refused
+unfoldable pub offered : ℤ → Option Literal
+offered z = cond (is_literal z) (Some (record { value = z })) None

@@ -11,13 +11,6 @@ pub struct Literal {
     pub value: i64,
 }
 
-// What becomes of a number that is to be a literal.
-#[derive(Clone, Copy)]
-pub enum Offered {
-    Fine(Literal),
-    Refused,
-}
-
 // A set of literals. Bit v - 1 of a mask stands for variable v.
 #[derive(Clone, Copy)]
 pub struct Lits {
@@ -29,15 +22,15 @@ impl Literal {
     // How many variables there can be, and so the largest size of a literal.
     pub const MOST: u64 = 64;
 
-    // Any number may be offered; what is no literal is refused.
-    pub fn new(value: i64) -> Offered
+    // Any number may be offered; what is no literal makes none.
+    pub fn new(value: i64) -> Option<Literal>
         ensures { result ≡ offered value }
     {
         let l = Literal { value };
         if l.is_literal() {
-            Offered::Fine(l)
+            Some(l)
         } else {
-            Offered::Refused
+            None
         }
     }
 

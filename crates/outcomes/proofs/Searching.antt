@@ -1,4 +1,5 @@
 -- Load and search, of a desk's head and rows: what is refused, and what is read of them as it would be of the whole desk.
+use Rattle.std.specs.Prelude.{Ok, Err}
 use Prim.Native.Nat.{ℕ, ◌+◌, ◌*◌, ◌≤◌}
 use mathlib.Core.Path.{◌≡◌, ap, ◌∙◌}
 use mathlib.Core.Bool.{true}
@@ -7,11 +8,9 @@ use native.Mathlib.Omega.{arith}
 use lib.ListN.{length, take, drop, replicate}
 use Rattle.rules.specs.declared.Choice.{Choice}
 use Rattle.rules.specs.declared.Refusal.{Refusal}
-use Rattle.rules.specs.declared.Judged.{Judged}
-use Rattle.rules.specs.declared.Judged.TheVariants.{Fine, Refused}
+use Rattle.rules.specs.Refusals.{Judged}
 use Rattle.rules.specs.declared.Found.{Found}
 use Rattle.rules.specs.declared.Losses.{Losses}
-use Rattle.rules.specs.declared.Outcome.{Outcome}
 use Rattle.rules.specs.declared.Part.{Part}
 use Rattle.rules.specs.Table.{row_words}
 use Rattle.rules.specs.Desk.{head_words, in_use, row_place, desk_words, well_formed, load_step, decisions}
@@ -30,12 +29,12 @@ use Rattle.desk_laws.specs.Readable.{Readable}
 use Rattle.desk_laws.proofs.Readable.{readable, readable-front}
 
 module _ (n b m : ℕ) (words : List ℕ) (long : length words ≡ head_words + row_words * m) where
-  pub not-loaded : (j : Judged) (r : Refusal) → j ≡ front_why n m words → j ≡ Refused r
-      → Outcome.Refused r ≡ table_outcome n b m (drop head_words words)
+  pub not-loaded : (j : Judged) (r : Refusal) → j ≡ front_why n m words → j ≡ Err r
+      → Err r ≡ table_outcome n b m (drop head_words words)
   unfolding front_why
-  not-loaded j r why e = let f : front_why n m words ≡ Refused r = matched why e in rw f
+  not-loaded j r why e = let f : front_why n m words ≡ Err r = matched why e in rw f
 
-  module _ (j : Judged) (after : List ℕ) (why : j ≡ front_why n m words) (fine : j ≡ Fine) (made : after ≡ front_desk n m words) where
+  module _ (j : Judged) (after : List ℕ) (why : j ≡ front_why n m words) (fine : j ≡ Ok tt) (made : after ≡ front_desk n m words) where
     -- where the rows of the program's desk end
     ends : row_place (in_use (program_desk n m (drop head_words words))) ≤ row_place m
     unfolding program_desk load_step row_place
@@ -57,11 +56,11 @@ module _ (n b m : ℕ) (words : List ℕ) (long : length words ≡ head_words + 
     front-readable = rw front (readable-front (readable _ formed-whole) (row_place m) ends within)
 
     pub loaded : (p : Part) (root : Losses) (found : Found) → p ≡ decisions after → root ≡ losses_at after p → found ≡ found_by (walk_in after Choice.Units b)
-        → Outcome.Searched n root found ≡ table_outcome n b m (drop head_words words)
+        → Ok (record { variables = n; root = root; found = found }) ≡ table_outcome n b m (drop head_words words)
     unfolding front_why
     loaded p root found is e g =
         let d = program_desk n m (drop head_words words) in
-        let f : front_why n m words ≡ Fine = matched why fine in
+        let f : front_why n m words ≡ (Ok tt) = matched why fine in
         let alike = front-alike d (row_place m) ends in
         let rooted : root ≡ losses_at d (decisions d) =
         e ∙ ap (losses_at after) is ∙ ap (λ (x : List ℕ). losses_at x (decisions x)) front ∙ losses-alike alike in

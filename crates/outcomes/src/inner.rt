@@ -5,30 +5,26 @@ ghost use Rattle.rules.specs.Desk.{head_words};
 ghost use Rattle.rules.specs.Program.{table_outcome};
 
 use bound::inner::{decisions, losses_at};
-use rules::{Choice, Desk, Judged, Outcome, Row};
+use rules::{Choice, Desk, Outcome, Refusal, Row};
 
 // The rows behind the head, loaded where they stand, bounded and searched.
-fn search_rows(variables: u64, budget: u32, rows: u64, words: &mut [u64]) -> Outcome
+fn search_rows(variables: u64, budget: u32, rows: u64, words: &mut [u64]) -> Result<Outcome, Refusal>
     requires { length words.old ≡ head_words + row_words * rows }
     ensures { result ≡ table_outcome variables budget rows (drop head_words words.old) }
 {
-    match desk::inner::load_front(variables, rows, words) {
-        Judged::Refused(why) => Outcome::Refused(why),
-        Judged::Fine => {
-            let p = decisions(words);
-            let root = losses_at(words, p);
-            let found = walk::inner::found_on(words, Choice::Units, budget, &mut []);
-            Outcome::Searched {
-                variables,
-                root,
-                found,
-            }
-        }
-    }
+    desk::inner::load_front(variables, rows, words)?;
+    let p = decisions(words);
+    let root = losses_at(words, p);
+    let found = walk::inner::found_on(words, Choice::Units, budget, &mut []);
+    Ok(Outcome {
+        variables,
+        root,
+        found,
+    })
 }
 
 // The first so many rows, searched on a desk with room for just those.
-pub fn search_read(variables: u64, budget: u32, rows: u64, words: &mut [u64]) -> Outcome
+pub fn search_read(variables: u64, budget: u32, rows: u64, words: &mut [u64]) -> Result<Outcome, Refusal>
     requires { head_words + row_words * rows ≤ length words.old }
     ensures { result ≡ table_outcome variables budget rows (take (row_words * rows) (drop head_words words.old)) }
 {

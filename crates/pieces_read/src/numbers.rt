@@ -4,14 +4,14 @@ ghost use Rattle.rules.specs.Text.{most_digits};
 ghost use Rattle.rules.specs.Reader.{digit_run, value_of, number_at};
 
 use crate::bytes;
-use rules::Parsed;
+use rules::TextRead;
 
 // How many digits stand from the place on, counted to one more than a number may have.
 fn digit_run(s: &[u8], at: usize) -> usize
     ensures { result ≡ digit_run s.now at (suc most_digits) }
 {
     let mut n = 0;
-    while n <= Parsed::DIGITS {
+    while n <= TextRead::DIGITS {
         let b = bytes::byte_past(s, at, n);
         if !bytes::is_digit(b) {
             return n;
@@ -43,16 +43,15 @@ fn wide(b: u8) -> u64
     b as u64
 }
 
-pub fn number_at(s: &[u8], at: usize) -> Parsed
+pub fn number_at(s: &[u8], at: usize) -> Option<(u64, usize)>
     ensures { result ≡ number_at s.now at }
 {
     let n = digit_run(s, at);
     let first = bytes::byte_at(s, at);
-    if (1 <= n) & ((n <= Parsed::DIGITS) & ((n == 1) | (first != b'0'))) {
+    if (1 <= n) & ((n <= TextRead::DIGITS) & ((n == 1) | (first != b'0'))) {
         let value = value_of(s, at, n);
-        let next = at + n;
-        Parsed::Number { value, next }
+        Some((value, at + n))
     } else {
-        Parsed::Broken
+        None
     }
 }

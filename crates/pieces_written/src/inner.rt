@@ -8,7 +8,7 @@ ghost use Rattle.text_laws.specs.Lengths.{most_number_end, most_literal, most_li
 ghost use Rattle.pieces_written.specs.Stored.{Stored};
 
 use literals::Lits;
-use rules::Parsed;
+use rules::TextRead;
 
 pub fn put(out: &mut [u8], at: usize, b: u8) -> usize
     requires { at < 2 ^ 32 }
@@ -54,7 +54,7 @@ pub fn put_number(out: &mut [u8], at: usize, n: u64) -> usize
     requires { at + most_digits ≤ 2 ^ 32 }
     ensures { Stored out.old at (number_text n) result out.new }
 {
-    put_digits(out, at, Parsed::DIGITS, n)
+    put_digits(out, at, TextRead::DIGITS, n)
 }
 
 // A line of a key and a number.

@@ -1,41 +1,26 @@
 // The first three lines, and what is due by them before the rows are judged.
-ghost use Rattle.std.specs.Prelude.{◌≡◌, ◌≤◌};
-ghost use Rattle.rules.specs.declared.HeadRead.{HeadRead};
+ghost use Rattle.std.specs.Prelude.{◌≡◌, ◌≤◌, Ok};
 ghost use Rattle.rules.specs.Table.{most_rows};
-ghost use Rattle.rules.specs.Reader.{head_at, head_why};
+ghost use Rattle.rules.specs.Reader.{three_lines, head_at, head_why};
 
 use crate::rows;
 use literals::Literal;
 use pieces_read::inner;
-use rules::{HeadRead, Judged, Parsed, Refusal, Row, TextRead};
+use rules::{HeadRead, Refusal, Row, TextRead};
 
 // The first three lines.
-pub fn head_at(s: &[u8]) -> HeadRead
+pub fn head_at(s: &[u8]) -> Result<HeadRead, u64>
     ensures { result ≡ head_at s.now }
 {
-    let Parsed::Number {
-        value: variables,
-        next,
-    } = inner::number_line(s, 0, b"vars=")
-    else {
-        return HeadRead::Broken(1);
-    };
-    let Parsed::Number {
-        value: budget,
-        next,
-    } = inner::number_line(s, next, b"budget=")
-    else {
-        return HeadRead::Broken(2);
-    };
-    let Parsed::Number { value: rows, next } = inner::number_line(s, next, b"rows=") else {
-        return HeadRead::Broken(3);
-    };
-    HeadRead::Lines {
+    let (variables, next) = inner::number_line(s, 0, b"vars=").ok_or(1)?;
+    let (budget, next) = inner::number_line(s, next, b"budget=").ok_or(2)?;
+    let (rows, next) = inner::number_line(s, next, b"rows=").ok_or(3)?;
+    Ok(HeadRead {
         variables,
         budget,
         rows,
         next,
-    }
+    })
 }
 
 // In the reader's order: 1, 9, 2, 4, the rest.
@@ -47,22 +32,22 @@ pub fn head_why(
     budget: u64,
     rows: u64,
     from: usize,
-) -> Judged
+) -> Result<(), Refusal>
     requires { most ≤ most_rows }
-    ensures { result ≡ head_why most s.now room (HeadRead.Lines variables budget rows from) }
+    ensures { result ≡ head_why most s.now room (Ok (three_lines variables budget rows from)) }
 {
     if variables > Literal::MOST {
-        return Judged::Refused(Refusal::TooManyVariables);
+        return Err(Refusal::TooManyVariables);
     }
     if budget > TextRead::MOST_BUDGET {
-        return Judged::Refused(Refusal::BadBudget);
+        return Err(Refusal::BadBudget);
     }
     let count = rows as usize;
     if count > most {
-        return Judged::Refused(Refusal::BadTable);
+        return Err(Refusal::BadTable);
     }
     if room < Row::WORDS * count {
-        return Judged::Refused(Refusal::NoRoom);
+        return Err(Refusal::NoRoom);
     }
     rows::rest_why(s, from, rows)
 }

@@ -6,21 +6,14 @@ ghost use Rattle.std.specs.Prelude.{◌≡◌, length};
 ghost use Rattle.rules.specs.Table.{most_rows};
 ghost use Rattle.rules.specs.Reader.{text_read, read_table};
 
-use rules::{Row, TextRead};
+use rules::{Refusal, Row, TextRead};
 
 mod heads;
 pub mod inner;
 mod rows;
 
-// Where rows end, or the first of their lines that breaks the form.
-#[derive(Clone, Copy)]
-pub enum RowsEnd {
-    Behind(usize),
-    Broken(u64),
-}
-
 // What the text says beside its rows, with the rows' words at the front of the table; or why it is refused, with the table as found.
-pub fn read(s: &[u8], table: &mut [u64]) -> TextRead
+pub fn read(s: &[u8], table: &mut [u64]) -> Result<TextRead, Refusal>
     ensures answer { result ≡ text_read most_rows s.now (length table.old) }
     ensures words { table.new ≡ read_table most_rows s.now table.old }
 {

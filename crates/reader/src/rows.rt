@@ -7,17 +7,17 @@ ghost use Rattle.rules.specs.Reader.{lits_line, mark_line, row_at, rows_at, rest
 ghost use Rattle.text_laws.specs.Ends.{unbroken};
 ghost use Rattle.reader.specs.Ends.{end_of};
 
-use crate::RowsEnd;
 use pieces_read::inner;
-use rules::{Judged, Listed, Parsed, Refusal, Row, RowRead};
+use literals::Lits;
+use rules::{Refusal, Row};
 
 // The line on which the rows begin, and the lines of a row.
 const FIRST_LINE: u64 = 4;
 
 const LINES: u64 = 3;
 
-// A line of literals.
-fn lits_line(s: &[u8], at: usize) -> Listed
+// A line of literals, and the place behind it.
+fn lits_line(s: &[u8], at: usize) -> Option<(Lits, usize)>
     ensures { result ≡ lits_line s.now at }
 {
     let key = b"lits=";
@@ -25,49 +25,34 @@ fn lits_line(s: &[u8], at: usize) -> Listed
         let from = at + key.len();
         lists_read::lits_from(s, from)
     } else {
-        Listed::Broken
+        None
     }
 }
 
-// A line of a mark, 0 or 1.
-fn mark_line(s: &[u8], at: usize) -> Parsed
+// A line of a mark, 0 or 1, and the place behind it.
+fn mark_line(s: &[u8], at: usize) -> Option<(u64, usize)>
     ensures { result ≡ mark_line s.now at }
 {
-    let Parsed::Number { value: mark, next } = inner::number_line(s, at, b"hard=") else {
-        return Parsed::Broken;
-    };
+    let (mark, next) = inner::number_line(s, at, b"hard=")?;
     if mark > Row::HARD {
-        return Parsed::Broken;
+        return None;
     }
-    Parsed::Number { value: mark, next }
+    Some((mark, next))
 }
 
-// A row's three lines, of which the first has this number.
-fn row_at(s: &[u8], at: usize, line: u64) -> RowRead
+// A row's three lines, of which the first has this number, and the place behind them; or the line that breaks the form.
+fn row_at(s: &[u8], at: usize, line: u64) -> Result<(Row, usize), u64>
     requires { line < 2 ^ 32 }
     ensures { result ≡ row_at s.now at line }
 {
-    let Parsed::Number {
-        value: weight,
-        next,
-    } = inner::number_line(s, at, b"weight=")
-    else {
-        return RowRead::Broken(line);
-    };
-    let Parsed::Number { value: mark, next } = mark_line(s, next) else {
-        let second = line + 1;
-        return RowRead::Broken(second);
-    };
-    let Listed::Literals { lits, next } = lits_line(s, next) else {
-        let third = line + 2;
-        return RowRead::Broken(third);
-    };
-    let row = Row::marked(lits, weight, mark);
-    RowRead::Lines { row, next }
+    let (weight, next) = inner::number_line(s, at, b"weight=").ok_or(line)?;
+    let (mark, next) = mark_line(s, next).ok_or(line + 1)?;
+    let (lits, next) = lits_line(s, next).ok_or(line + 2)?;
+    Ok((Row::marked(lits, weight, mark), next))
 }
 
-// The rows from their first line on.
-fn rows_end(s: &[u8], from: usize, rows: u64) -> RowsEnd
+// Where the rows end, from their first line on; or the first of their lines that breaks the form.
+fn rows_end(s: &[u8], from: usize, rows: u64) -> Result<usize, u64>
     requires { rows ≤ most_rows }
     ensures { result ≡ end_of (rows_at rows s.now from first_row_line) }
 {
@@ -75,35 +60,24 @@ fn rows_end(s: &[u8], from: usize, rows: u64) -> RowsEnd
     let mut i = 0;
     let mut line = FIRST_LINE;
     while i < rows {
-        match row_at(s, at, line) {
-            RowRead::Broken(broken) => {
-                return RowsEnd::Broken(broken);
-            }
-            RowRead::Lines { row: _, next } => {
-                at = next;
-            }
-        }
+        let (_, next) = row_at(s, at, line)?;
+        at = next;
         i += 1;
         line += LINES;
     }
-    RowsEnd::Behind(at)
+    Ok(at)
 }
 
 // The rows, and that nothing follows them.
-pub fn rest_why(s: &[u8], from: usize, rows: u64) -> Judged
+pub fn rest_why(s: &[u8], from: usize, rows: u64) -> Result<(), Refusal>
     requires { rows ≤ most_rows }
     ensures { result ≡ rest_why s.now rows (rows_at rows s.now from first_row_line) }
 {
-    match rows_end(s, from, rows) {
-        RowsEnd::Broken(line) => Judged::Refused(Refusal::BadText(line)),
-        RowsEnd::Behind(at) => {
-            if at == s.len() {
-                return Judged::Fine;
-            }
-            let line = FIRST_LINE + LINES * rows;
-            Judged::Refused(Refusal::BadText(line))
-        }
+    let at = rows_end(s, from, rows).map_err(Refusal::BadText)?;
+    if at == s.len() {
+        return Ok(());
     }
+    Err(Refusal::BadText(FIRST_LINE + LINES * rows))
 }
 
 // The rows once more, now stored: they were read to their end, and there is room.
@@ -114,7 +88,7 @@ pub fn store_rows(s: &[u8], from: usize, rows: usize, table: &mut [u64])
     let mut at = from;
     let mut i = 0;
     while i < rows {
-        let RowRead::Lines { row, next } = row_at(s, at, FIRST_LINE) else {
+        let Ok((row, next)) = row_at(s, at, FIRST_LINE) else {
             return;
         };
         words::inner::set_row_in(table, Row::WORDS * i, row);

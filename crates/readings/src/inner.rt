@@ -36,14 +36,14 @@ pub fn literals_of(variables: u64, reading: u64) -> Lits
     }
 }
 
-pub fn put_reading(out: &mut [u8], at: usize, variables: u64, best: Best) -> usize
+pub fn put_reading(out: &mut [u8], at: usize, variables: u64, best: Option<Best>) -> usize
     requires most_reading_line_bound { at + most_reading_line ≤ 2 ^ 32 }
     requires variables_le_most_variables { variables ≤ most_variables }
     ensures { Stored out.old at (line "reading=" (reading_text variables best)) result out.new }
 {
     match best {
-        Best::Nothing => inner::put_key(out, at, b"reading=none\n"),
-        Best::Reading { weight: _, reading } => {
+        None => inner::put_key(out, at, b"reading=none\n"),
+        Some(Best { weight: _, reading }) => {
             let lits = literals_of(variables, reading);
             inner::put_lits_line(out, at, b"reading=", variables, lits)
         }

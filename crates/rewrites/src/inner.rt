@@ -1,6 +1,5 @@
 // A rewriting that was judged fine, written.
-ghost use Rattle.std.specs.Prelude.{◌≡◌, cond, ◌&&◌, eqb, set};
-ghost use Rattle.rules.specs.declared.Judged.TheVariants.{Fine};
+ghost use Rattle.std.specs.Prelude.{◌≡◌, cond, ◌&&◌, eqb, set, Ok};
 ghost use Rattle.rules.specs.Decide.{entered};
 ghost use Rattle.rules.specs.Rewrite.{rewrite_why, rewrite_step};
 ghost use Rattle.rules.specs.Steps.{concedes};
@@ -14,7 +13,7 @@ use rules::{Desk, Entry};
 use words::inner::enter;
 
 pub fn rewrite_step(desk: &mut [u64], kind: u64, named: &[u64])
-    requires { rewrite_why desk.old kind named.now ≡ Fine }
+    requires { rewrite_why desk.old kind named.now ≡ Ok tt }
     ensures { desk.new ≡ rewrite_step desk.old kind named.now }
 {
     let first = desk[Desk::IN_USE];

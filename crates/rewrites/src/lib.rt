@@ -6,19 +6,16 @@ ghost use Rattle.rules.specs.Rewrite.{rewrite_why, rewrite_desk};
 
 use fitting::rewrite_why;
 use inner::rewrite_step;
-use rules::Judged;
+use rules::Refusal;
 
 pub mod inner;
 
 // Merge, shift, chain or fork on the named rows.
-pub fn rewrite(desk: &mut [u64], kind: u64, named: &[u64]) -> Judged
+pub fn rewrite(desk: &mut [u64], kind: u64, named: &[u64]) -> Result<(), Refusal>
     ensures value { result ≡ rewrite_why desk.old kind named.now }
     ensures desk_after { desk.new ≡ rewrite_desk desk.old kind named.now }
 {
-    let why = rewrite_why(desk, kind, named);
-    let Judged::Fine = why else {
-        return why;
-    };
+    rewrite_why(desk, kind, named)?;
     rewrite_step(desk, kind, named);
-    Judged::Fine
+    Ok(())
 }

@@ -1,4 +1,5 @@
 -- What an admissible table is, as facts on its rows: none of 1, 2, the rows' 5 and 6, and 7 is due.
+use Rattle.std.specs.Prelude.{Ok}
 use Prim.Native.Nat.{ℕ, zero, suc, ◌*◌, ◌%◌, ◌<◌, ◌≤◌}
 use mathlib.Core.Path.{◌≡◌, refl}
 use mathlib.Core.Logic.{⊎_elim}
@@ -15,7 +16,6 @@ use Rattle.masks.proofs.Choice.{or-none, and_left, and_right, lt-or-le, impossib
 use Rattle.literals.specs.Literal.{most_variables}
 use Rattle.rules.specs.declared.Row.{Row}
 use Rattle.rules.specs.declared.Refusal.TheVariants.{TooManyVariables, BadTable, BadLiterals, BadWeight, SumTooLarge}
-use Rattle.rules.specs.declared.Judged.TheVariants.{Fine}
 use Rattle.rules.specs.Table.{row_words, most_rows, most_weight, hard_mark, is_hard, row_of, row_count}
 use Rattle.rules.specs.Table.{bad_table, bad_lits, bad_mark, bad_weight, row_why, rows_why, sum_too_large, table_why}
 use Rattle.rules.proofs.Judging.{refuse-fine, order-fine}
@@ -54,7 +54,7 @@ light-fine row e = go (is_hard row) refl
         let soft : (eqb row.weight 0 || ltb most_weight row.weight) ≡ false = rw h at two.1 in
         ltb-false most_weight row.weight (or-none (eqb row.weight 0) (ltb most_weight row.weight) soft).1
 
-pub row_fine : (n i : ℕ) (row : Row) → row_why n i row ≡ Fine → RowFine n row
+pub row_fine : (n i : ℕ) (row : Row) → row_why n i row ≡ Ok tt → RowFine n row
 unfolding row_why bad_lits bad_weight bad_mark is_hard none
 row_fine n i row e =
     let p1 = refuse-fine (bad_lits n row.lits) (BadLiterals i) _ e in
@@ -75,7 +75,7 @@ row_fine n i row e =
       marked = (or-none (bad_mark row) _ p2.0).0;
     }
 
-pub rows-fine : (n : ℕ) (table : List ℕ) (m : ℕ) → rows_why n table m ≡ Fine → (i : ℕ) → i < m → RowFine n (row_of table i)
+pub rows-fine : (n : ℕ) (table : List ℕ) (m : ℕ) → rows_why n table m ≡ Ok tt → (i : ℕ) → i < m → RowFine n (row_of table i)
 unfolding rows_why
 rows-fine n table zero e i l = absurd (omega arith)
 rows-fine n table (suc m) e i l =
@@ -100,13 +100,13 @@ pub record TableFine (n : ℕ) (table : List ℕ) : Type 0 where
   pub rows : (i : ℕ) → i < row_count table → RowFine n (row_of table i)
   pub light : sum (row_count table) (λ i. (row_of table i).weight) ≤ most_weight
 
-pub table-fine : (n : ℕ) (table : List ℕ) → table_why n table ≡ Fine → TableFine n table
+pub table-fine : (n : ℕ) (table : List ℕ) → table_why n table ≡ Ok tt → TableFine n table
 unfolding table_why sum_too_large
 table-fine n table e =
     let p1 = refuse-fine (ltb most_variables n) TooManyVariables _ e in
     let p2 = refuse-fine (bad_table table) BadTable _ p1.1 in
     let p3 = order-fine (rows_why n table (row_count table)) _ p2.1 in
-    let p4 = refuse-fine (sum_too_large table) SumTooLarge Fine p3.1 in
+    let p4 = refuse-fine (sum_too_large table) SumTooLarge (Ok tt) p3.1 in
     let shape = whole-rows table p2.0 in
     record {
       variables = ltb-false most_variables n p1.0;

@@ -8,8 +8,7 @@ use Rattle.rules.specs.declared.Row.{Row}
 use Rattle.rules.specs.declared.Part.{Part}
 use Rattle.rules.specs.declared.Losses.{Losses}
 use Rattle.rules.specs.declared.Refusal.TheVariants.{BadDesk}
-use Rattle.rules.specs.declared.Judged.{Judged}
-use Rattle.rules.specs.Refusals.{◌when◌, first_due}
+use Rattle.rules.specs.Refusals.{Judged, ◌when◌, first_due}
 use Rattle.rules.specs.Table.{is_hard}
 use Rattle.rules.specs.Desk.{variables, in_use, conceded, row_on, well_formed, satisfied, remnant}
 

@@ -1,6 +1,6 @@
 -- A call on a desk as a value: a decision, a rewriting, a taking back, or a load into its words. A refused call leaves the desk as it found it.
 use Rattle.std.specs.Prelude.{ℕ, List, [], ◌∷◌, ℤ}
-use Rattle.rules.specs.declared.Judged.{Judged}
+use Rattle.rules.specs.Refusals.{Judged}
 use Rattle.rules.specs.Desk.{load_why, load_desk}
 use Rattle.rules.specs.Decide.{decide_why, decide_desk}
 use Rattle.rules.specs.Rewrite.{rewrite_why, rewrite_desk}

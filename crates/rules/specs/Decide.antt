@@ -5,8 +5,7 @@ use Rattle.std.specs.Int.Bits.{bit_or}
 use Rattle.masks.specs.Masks.{has}
 use Rattle.literals.specs.Literal.{size, is_positive, is_literal, bit_of}
 use Rattle.rules.specs.declared.Refusal.TheVariants.{BadDesk, TooManySteps, BadLiteral}
-use Rattle.rules.specs.declared.Judged.{Judged}
-use Rattle.rules.specs.Refusals.{◌when◌, first_due, unless_refused}
+use Rattle.rules.specs.Refusals.{Judged, ◌when◌, first_due, unless_refused}
 use Rattle.rules.specs.Desk.{variables, standing, decided, truths, most_steps, entry_place, well_formed}
 
 -- a step is entered behind those that stand

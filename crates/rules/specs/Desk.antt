@@ -9,8 +9,7 @@ use Rattle.literals.specs.Literal.{most_variables}
 use Rattle.rules.specs.declared.Row.{Row}
 use Rattle.rules.specs.declared.Part.{Part}
 use Rattle.rules.specs.declared.Refusal.TheVariants.{TooManyVariables, BadTable, BadCapacity, NoRoom, SumTooLarge}
-use Rattle.rules.specs.declared.Judged.{Judged}
-use Rattle.rules.specs.Refusals.{◌when◌, as_in, first_due, unless_refused}
+use Rattle.rules.specs.Refusals.{Judged, ◌when◌, as_in, first_due, unless_refused}
 use Rattle.rules.specs.Table.{row_words, most_rows, most_weight, row_in, row_words_of, with_weight, row_count, given_up, is_hard, breaks}
 use Rattle.rules.specs.Table.{bad_table, bad_lits, bad_mark, rows_why, sum_too_large}
 

@@ -1,21 +1,20 @@
 -- Document 01, "Examples, marked P where proved": one table. A row has the example's name, what the definitions give, and what document 01
 -- says, both as numbers. Further examples, with names that do not start with P, are in Further.antt.
-use Rattle.std.specs.Prelude.{ℕ, zero, suc, ◌+◌, ◌-◌, List, [], ◌∷◌, ◌++◌, Bool, true, false, ◌&&◌, replicate, eqb, pos, negsuc}
+use Rattle.std.specs.Prelude.{ℕ, zero, suc, ◌+◌, ◌-◌, List, [], ◌∷◌, ◌++◌, Bool, true, false, ◌&&◌, replicate, eqb, pos, negsuc, Result, Ok, Err}
 use Prim.Native.String.{String}
 use Rattle.literals.specs.declared.Lits.{Lits}
 use Rattle.literals.specs.Lits.{no_lits, together}
 use Rattle.literals.specs.Literal.{lits_of}
-use Rattle.rules.specs.declared.Bounded.{Bounded}
 use Rattle.rules.specs.declared.Choice.{Choice}
-use Rattle.rules.specs.declared.Judged.{Judged}
-use Rattle.rules.specs.declared.Judged.TheVariants.{Fine, Refused}
-use Rattle.rules.specs.Refusals.{number_of, place_of}
+use Rattle.rules.specs.Refusals.{Judged, number_of, place_of}
 use Rattle.rules.specs.Table.{new_row, weighs, row_words_of}
 use Rattle.rules.specs.Desk.{in_use, conceded, row_on, desk_words, load_why, load_step, desk_weighs}
 use Rattle.rules.specs.Choice.{bounded}
 use Rattle.rules.specs.Text.{bytes}
 use Rattle.rules.specs.Program.{answer}
 use Rattle.rules.specs.Calls.{decide, rewrite, take_back, call_why, after_call, after_calls}
+use Rattle.rules.specs.declared.Losses.{Losses}
+use Rattle.rules.specs.declared.Refusal.{Refusal}
 
 pub record Example : Type 0 where
   pub name : String
@@ -56,12 +55,12 @@ desk n table c = load_step n table c (lent c)
 
 -- an answer that is a number and a place, or nothing
 abbrev pub refusal : Judged → List ℕ
-refusal Fine = []
-refusal (Refused r) = number_of r ∷ place_of r ∷ []
+refusal (Ok _) = []
+refusal (Err r) = number_of r ∷ place_of r ∷ []
 
-abbrev bound_numbers : Bounded → List ℕ
-bound_numbers (Bounded.Bound l) = l.conceded ∷ l.lost ∷ l.foreseen ∷ []
-bound_numbers (Bounded.Refused r) = number_of r ∷ place_of r ∷ []
+abbrev bound_numbers : Result Losses Refusal → List ℕ
+bound_numbers (Ok l) = l.conceded ∷ l.lost ∷ l.foreseen ∷ []
+bound_numbers (Err r) = number_of r ∷ place_of r ∷ []
 
 -- conceded and the rows in use
 abbrev rows_on : List ℕ → ℕ → List ℕ

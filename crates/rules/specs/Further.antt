@@ -1,8 +1,8 @@
 -- Further examples, beside document 01's own, in the same table: each limit from below and from above, and the words of a desk one by one.
 -- The first three have the figures as the documents write them, so that a figure that is changed at its home is noticed; behind them rows loaded and C
 -- stand by name.
+use Rattle.std.specs.Prelude.{Result, Ok, Err}
 use Rattle.std.specs.Prelude.{ℕ, zero, suc, ◌+◌, ◌-◌, List, [], ◌∷◌, ◌++◌, Bool, true, false, set, take, drop, replicate, pos, negsuc}
-use Rattle.rules.specs.declared.Weighed.{Weighed}
 use Rattle.rules.specs.Refusals.{number_of, place_of}
 use Rattle.rules.specs.Table.{most_rows, marked_row, hard_row, row_words_of, weighed}
 use Rattle.rules.specs.Desk.{most_capacity, desk_words, in_limits, load_why, load_desk}
@@ -11,6 +11,8 @@ use Rattle.rules.specs.Program.{answer}
 use Rattle.rules.specs.Figures.{figures}
 use Rattle.rules.specs.Calls.{Call, decide, rewrite, take_back, load, call_why, after_call, after_calls}
 use Rattle.rules.specs.Examples.{Example, example, x, not-x, row, desk, refusal, account, p5, p7, p8}
+use Rattle.rules.specs.declared.Weight.{Weight}
+use Rattle.rules.specs.declared.Refusal.{Refusal}
 
 -- n rows that no reading satisfies, of weight 1
 abbrev empties : ℕ → List ℕ
@@ -45,9 +47,9 @@ abbrev answer_of : Bool → List ℕ
 answer_of true = 1 ∷ []
 answer_of false = 0 ∷ []
 
-abbrev weight_number : Weighed → List ℕ
-weight_number (Weighed.Weight w hold) = w ∷ answer_of hold
-weight_number (Weighed.Refused r) = number_of r ∷ place_of r ∷ []
+abbrev weight_number : Result Weight Refusal → List ℕ
+weight_number (Ok weighed) = weighed.weight ∷ answer_of weighed.hold
+weight_number (Err r) = number_of r ∷ place_of r ∷ []
 
 -- n words from a place on
 abbrev words : List ℕ → ℕ → ℕ → List ℕ

@@ -1,10 +1,9 @@
 -- Examples of the bound by groups, in the form of the other tables: both bounds, the rows of the first group, what is left of the weights; and of
 -- the choice: what a search by each answers, the numbers of a caller in C.
-use Rattle.std.specs.Prelude.{ℕ, zero, suc, List, [], ◌∷◌, ◌++◌, pos, negsuc, get_or}
+use Rattle.std.specs.Prelude.{ℕ, zero, suc, List, [], ◌∷◌, ◌++◌, pos, negsuc, get_or, Result, Ok, Err}
 use Rattle.literals.specs.declared.Lits.{Lits}
 use Rattle.rules.specs.declared.Choice.{Choice}
 use Rattle.rules.specs.declared.Losses.{Losses}
-use Rattle.rules.specs.declared.Searched.{Searched}
 use Rattle.rules.specs.Desk.{variables, in_use, row_on, decisions}
 use Rattle.rules.specs.Bound.{bound}
 use Rattle.rules.specs.Groups.{Weights, hunted, group_of, working_weight, hunts_on, groups_bound}
@@ -14,6 +13,8 @@ use Rattle.rules.specs.Text.{bytes}
 use Rattle.rules.specs.Program.{refusal_text, found_text, outcome_text, table_outcome}
 use Rattle.rules.specs.Calls.{decide, after_call}
 use Rattle.rules.specs.Examples.{Example, example, x, not-x, row, desk, p5}
+use Rattle.rules.specs.declared.Found.{Found}
+use Rattle.rules.specs.declared.Refusal.{Refusal}
 
 -- the bound of document 01, and the bound by groups
 abbrev bounds : List ℕ → List ℕ
@@ -75,9 +76,9 @@ clashing = row (x 1 ∷ []) 1 ++ (row (x 2 ∷ []) 1 ++ (row (not-x 1 ∷ []) 1 
 abbrev behind_one : List ℕ
 behind_one = row (x 2 ∷ []) 1 ++ (row (not-x 2 ∷ x 3 ∷ []) 1 ++ row (not-x 2 ∷ not-x 3 ∷ []) 1)
 
-abbrev search_text : ℕ → Losses → Searched → List ℕ
-search_text variables root (Searched.Found f) = found_text variables root f
-search_text variables root (Searched.Refused r) = refusal_text r
+abbrev search_text : ℕ → Losses → Result Found Refusal → List ℕ
+search_text variables root (Ok f) = found_text variables root f
+search_text variables root (Err r) = refusal_text r
 
 -- the lines of a search by the bound that is chosen, with that bound at its root
 abbrev chosen : Choice → ℕ → List ℕ → List ℕ

@@ -1,12 +1,14 @@
 -- Document 01, "Refusal numbers": the number and the place that each refusal answers, and how a call's refusals come in order.
-use Rattle.std.specs.Prelude.{ℕ, Bool, true, false, List, [], ◌∷◌}
+use Rattle.std.specs.Prelude.{ℕ, Bool, true, false, List, [], ◌∷◌, Err, Ok, Result, ⊤}
 use Rattle.rules.specs.declared.Numbered.{Numbered}
 use Rattle.rules.specs.declared.Refusal.{Refusal}
 use Rattle.rules.specs.declared.Refusal.TheVariants.{TooManyVariables, BadTable, BadCapacity, NoRoom, BadLiterals, BadWeight, SumTooLarge}
 use Rattle.rules.specs.declared.Refusal.TheVariants.{BadReading, BadBudget, BadDesk, TooManySteps, BadLiteral, BadNaming, BadFit, DeskFull}
 use Rattle.rules.specs.declared.Refusal.TheVariants.{NothingStands, InputTooLong, BadText}
-use Rattle.rules.specs.declared.Judged.{Judged}
-use Rattle.rules.specs.declared.Judged.TheVariants.{Fine, Refused}
+
+-- what a call is judged that has nothing else to say: fine, or refused
+abbrev pub Judged : Type 0
+Judged = Result ⊤ Refusal
 
 infix 68 ◌when◌
 abbrev pub numbers : ℕ → ℕ → Numbered
@@ -41,13 +43,13 @@ place_of r = (numbered r).1
 
 -- refused with r where the test holds, else judged as what comes after it
 abbrev pub refuse : Bool → Refusal → Judged → Judged
-refuse true r after = Refused r
+refuse true r after = Err r
 refuse false r after = after
 
 -- the first refusal of two judgements, in this order
 abbrev pub in_order : Judged → Judged → Judged
-in_order Fine after = after
-in_order (Refused r) after = Refused r
+in_order (Ok _) after = after
+in_order (Err r) after = Err r
 
 -- A call's refusals in their order: each with the test that is its "given exactly when", or an order that stands by itself.
 pub data Rule : Type 0 where
@@ -56,12 +58,12 @@ pub data Rule : Type 0 where
 
 -- what a call is judged: the first refusal that is due
 abbrev pub first_due : List Rule → Judged
-first_due [] = Fine
+first_due [] = Ok tt
 first_due (r when due ∷ rest) = refuse due r (first_due rest)
 first_due (as_in judged ∷ []) = judged
 first_due (as_in judged ∷ rule ∷ rest) = in_order judged (first_due (rule ∷ rest))
 
 -- "lent words and bytes stay as found": what a step makes of the words where it is fine, else the words as found
 abbrev pub unless_refused : Judged → List ℕ → List ℕ → List ℕ
-unless_refused Fine step found = step
-unless_refused (Refused r) step found = found
+unless_refused (Ok _) step found = step
+unless_refused (Err r) step found = found

@@ -8,8 +8,7 @@ use Rattle.masks.specs.Sums.{every, smallest}
 use Rattle.literals.specs.declared.Lits.{Lits}
 use Rattle.literals.specs.Lits.{no_lits, negated_lits, together, less, variables_of, same_lits, is_one}
 use Rattle.rules.specs.declared.Refusal.TheVariants.{BadDesk, TooManySteps, BadNaming, BadFit, DeskFull}
-use Rattle.rules.specs.declared.Judged.{Judged}
-use Rattle.rules.specs.Refusals.{◌when◌, first_due, unless_refused}
+use Rattle.rules.specs.Refusals.{Judged, ◌when◌, first_due, unless_refused}
 use Rattle.rules.specs.Table.{new_row, is_hard}
 use Rattle.rules.specs.Desk.{in_use, capacity, standing, conceded, most_steps, row_on, set_row, well_formed, decisions, satisfied, spent}
 use Rattle.rules.specs.Decide.{entered}

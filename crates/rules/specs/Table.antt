@@ -1,4 +1,5 @@
 -- Document 01, "The clause table": rows, an admissible table, the weight of a reading.
+use Rattle.std.specs.Prelude.{Result, Ok, Err}
 use Rattle.std.specs.Prelude.{ℕ, zero, suc, ◌+◌, ◌*◌, ◌/◌, ◌%◌, List, [], ◌∷◌, Bool, cond, not, ◌&&◌, ◌||◌, length, get_or, eqb, ltb}
 use Rattle.std.specs.Int.Bits.{bit_and}
 use Rattle.masks.specs.Masks.{none, without, below}
@@ -6,11 +7,10 @@ use Rattle.masks.specs.Sums.{sum, every}
 use Rattle.literals.specs.declared.Lits.{Lits}
 use Rattle.literals.specs.Literal.{most_variables}
 use Rattle.rules.specs.declared.Row.{Row}
-use Rattle.rules.specs.declared.Weighed.{Weighed}
 use Rattle.rules.specs.declared.Refusal.TheVariants.{TooManyVariables, BadTable, BadLiterals, BadWeight, SumTooLarge, BadReading}
-use Rattle.rules.specs.declared.Judged.{Judged}
-use Rattle.rules.specs.declared.Judged.TheVariants.{Fine, Refused}
-use Rattle.rules.specs.Refusals.{in_order, ◌when◌, as_in, first_due}
+use Rattle.rules.specs.Refusals.{Judged, in_order, ◌when◌, as_in, first_due}
+use Rattle.rules.specs.declared.Weight.{Weight}
+use Rattle.rules.specs.declared.Refusal.{Refusal}
 
 abbrev pub row_words : ℕ
 row_words = 4
@@ -104,7 +104,7 @@ row_why variables i row = first_due (BadLiterals i when bad_lits variables row.l
 
 -- "rows in order with 5 before 6": the first refusal among the first k rows
 unfoldable pub rows_why : ℕ → List ℕ → ℕ → Judged
-rows_why variables table zero = Fine
+rows_why variables table zero = Ok tt
 rows_why variables table (suc k) = in_order (rows_why variables table k) (row_why variables k (row_of table k))
 
 -- 7: weights sum over 1,000,000,000
@@ -121,10 +121,10 @@ table_why variables table =
 unfoldable pub weigh_why : ℕ → List ℕ → ℕ → Judged
 weigh_why variables table reading = first_due (as_in (table_why variables table) ∷ BadReading when not (below reading variables) ∷ [])
 
-abbrev pub weighed_as : Judged → ℕ → Bool → Weighed
-weighed_as Fine w hold = Weighed.Weight w hold
-weighed_as (Refused r) w hold = Weighed.Refused r
+abbrev pub weighed_as : Judged → ℕ → Bool → Result Weight Refusal
+weighed_as (Ok _) w hold = Ok (record { weight = w; hold = hold })
+weighed_as (Err r) w hold = Err r
 
 -- "The weight of a reading also says whether every hard row holds."
-unfoldable pub weighed : ℕ → List ℕ → ℕ → Weighed
+unfoldable pub weighed : ℕ → List ℕ → ℕ → Result Weight Refusal
 weighed variables table reading = weighed_as (weigh_why variables table reading) (weighs table reading) (hard_hold table reading)

@@ -4,8 +4,7 @@ use Rattle.masks.specs.Masks.{has, without, single}
 use Rattle.masks.specs.Sums.{every}
 use Rattle.masks.specs.Words.{zeroed}
 use Rattle.rules.specs.declared.Refusal.TheVariants.{BadDesk, NothingStands}
-use Rattle.rules.specs.declared.Judged.{Judged}
-use Rattle.rules.specs.Refusals.{◌when◌, first_due, unless_refused}
+use Rattle.rules.specs.Refusals.{Judged, ◌when◌, first_due, unless_refused}
 use Rattle.rules.specs.Table.{row_words, is_hard}
 use Rattle.rules.specs.Desk.{in_use, standing, conceded, decided, truths, loaded, entry_words, row_place, entry_place, row_on, well_formed, weight_fits}
 use Rattle.rules.specs.Steps.{most_kind, fewer_added, concedes, count_fits, distinct, reweighed, most_named}

@@ -1,5 +1,5 @@
 -- Document 01, "The text": what is written.
-use Rattle.std.specs.Prelude.{ℕ, zero, suc, ◌+◌, ◌*◌, ◌/◌, ◌%◌, List, [], ◌∷◌, ◌++◌, cond, length, drop, ltb}
+use Rattle.std.specs.Prelude.{ℕ, zero, suc, ◌+◌, ◌*◌, ◌/◌, ◌%◌, List, [], ◌∷◌, ◌++◌, cond, length, drop, ltb, Result, Ok, Err}
 use Prim.Native.Char.{code}
 use Prim.Native.String.{String}
 use Prim.Native.String as S
@@ -7,13 +7,11 @@ use Rattle.masks.specs.Masks.{has}
 use Rattle.literals.specs.declared.Lits.{Lits}
 use Rattle.literals.specs.Literal.{most_variables}
 use Rattle.rules.specs.declared.Row.{Row}
-use Rattle.rules.specs.declared.Written.{Written}
 use Rattle.rules.specs.declared.Refusal.TheVariants.{TooManyVariables, BadTable, NoRoom, BadBudget}
-use Rattle.rules.specs.declared.Judged.{Judged}
-use Rattle.rules.specs.declared.Judged.TheVariants.{Fine, Refused}
-use Rattle.rules.specs.Refusals.{Rule, ◌when◌, as_in, first_due, unless_refused}
+use Rattle.rules.specs.Refusals.{Judged, Rule, ◌when◌, as_in, first_due, unless_refused}
 use Rattle.rules.specs.Table.{row_words, row_count, row_of, table_why}
 use Rattle.rules.specs.Walk.{most_budget}
+use Rattle.rules.specs.declared.Refusal.{Refusal}
 
 -- a text as its bytes
 unfoldable pub bytes : String → List ℕ
@@ -85,12 +83,12 @@ table_text variables budget table =
 unfoldable pub text_why : Judged → List ℕ → List ℕ → Judged
 text_why before text out = first_due (as_in before ∷ NoRoom when ltb (length out) (length text) ∷ [])
 
-abbrev pub written_as : Judged → ℕ → Written
-written_as Fine n = Written.Bytes n
-written_as (Refused r) n = Written.Refused r
+abbrev pub written_as : Judged → ℕ → Result ℕ Refusal
+written_as (Ok _) n = Ok n
+written_as (Err r) n = Err r
 
 -- how many bytes it has, or why none was written
-unfoldable pub text_written : Judged → List ℕ → List ℕ → Written
+unfoldable pub text_written : Judged → List ℕ → List ℕ → Result ℕ Refusal
 text_written before text out = written_as (text_why before text out) (length text)
 
 -- the lent bytes afterwards: "An accepted call writes nothing past its output's end."
@@ -101,7 +99,7 @@ text_out before text out = unless_refused (text_why before text out) (text ++ dr
 abbrev pub write_why : ℕ → ℕ → List ℕ → List ℕ → Judged
 write_why variables budget table out = text_why (table_why variables table) (table_text variables budget table) out
 
-abbrev pub written : ℕ → ℕ → List ℕ → List ℕ → Written
+abbrev pub written : ℕ → ℕ → List ℕ → List ℕ → Result ℕ Refusal
 written variables budget table out = text_written (table_why variables table) (table_text variables budget table) out
 
 abbrev pub write_out : ℕ → ℕ → List ℕ → List ℕ → List ℕ

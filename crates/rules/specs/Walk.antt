@@ -1,5 +1,5 @@
 -- Document 01, "The bound and the walk": the walk with its budget, over any bound and any value tried first, and the search.
-use Rattle.std.specs.Prelude.{ℕ, zero, suc, ◌+◌, List, [], ◌∷◌, ◌++◌, Bool, true, false, cond, not, leb, ltb}
+use Rattle.std.specs.Prelude.{ℕ, zero, suc, ◌+◌, List, [], ◌∷◌, ◌++◌, Bool, true, false, cond, not, leb, ltb, Option, Some, None, Result, Ok, Err}
 use Rattle.std.specs.Int.Bits.{bit_or}
 use Rattle.masks.specs.Masks.{has, single}
 use Rattle.rules.specs.declared.Part.{Part}
@@ -8,13 +8,12 @@ use Rattle.rules.specs.declared.Walked.{Walked}
 use Rattle.rules.specs.declared.Status.{Status}
 use Rattle.rules.specs.declared.Best.{Best}
 use Rattle.rules.specs.declared.Found.{Found}
-use Rattle.rules.specs.declared.Searched.{Searched}
-use Rattle.rules.specs.declared.Judged.{Judged}
-use Rattle.rules.specs.declared.Judged.TheVariants.{Fine, Refused}
+use Rattle.rules.specs.Refusals.{Judged}
 use Rattle.rules.specs.Desk.{variables, decided, weight_on, decisions}
 use Rattle.rules.specs.Table.{most_weight}
 use Rattle.rules.specs.Bound.{dead, desk_why}
 use Rattle.rules.specs.Choice.{bound_by}
+use Rattle.rules.specs.declared.Refusal.{Refusal}
 
 -- "a 32-bit number, 0 to 4,294,967,295"
 abbrev pub most_budget : ℕ
@@ -86,17 +85,17 @@ status_of true kept = Status.Stopped
 status_of false true = Status.Done
 status_of false false = Status.Impossible
 
-abbrev pub best_of : Bool → ℕ → ℕ → Best
-best_of true weight reading = Best.Reading weight reading
-best_of false weight reading = Best.Nothing
+abbrev pub best_of : Bool → ℕ → ℕ → Option Best
+best_of true weight reading = Some (record { weight = weight; reading = reading })
+best_of false weight reading = None
 
 abbrev pub found_by : Walked → Found
 found_by s = record { status = status_of s.stopped s.kept; best = best_of s.kept s.best s.reading; nodes = s.nodes }
 
-abbrev pub searched_as : Judged → Found → Searched
-searched_as Fine f = Searched.Found f
-searched_as (Refused r) f = Searched.Refused r
+abbrev pub searched_as : Judged → Found → Result Found Refusal
+searched_as (Ok _) f = Ok f
+searched_as (Err r) f = Err r
 
 -- the search, or the refusal
-unfoldable pub searched : List ℕ → Choice → ℕ → Searched
+unfoldable pub searched : List ℕ → Choice → ℕ → Result Found Refusal
 searched d choice budget = searched_as (desk_why d) (found_by (walk_in d choice budget))

@@ -1,14 +1,14 @@
 -- Document 02, C-11: competition files, DIMACS WCNF in its older form: what is written.
-use Rattle.std.specs.Prelude.{ℕ, zero, suc, ◌+◌, List, [], ◌∷◌, ◌++◌, cond}
+use Rattle.std.specs.Prelude.{ℕ, zero, suc, ◌+◌, List, [], ◌∷◌, ◌++◌, cond, Result}
 use Rattle.masks.specs.Masks.{has}
 use Rattle.masks.specs.Sums.{sum}
 use Rattle.literals.specs.declared.Lits.{Lits}
 use Rattle.literals.specs.Literal.{most_variables}
 use Rattle.rules.specs.declared.Row.{Row}
-use Rattle.rules.specs.declared.Written.{Written}
-use Rattle.rules.specs.declared.Judged.{Judged}
+use Rattle.rules.specs.Refusals.{Judged}
 use Rattle.rules.specs.Table.{row_of, row_count, is_hard, table_why}
 use Rattle.rules.specs.Text.{bytes, line_feed, space, minus, number_text, text_why, text_written, text_out}
+use Rattle.rules.specs.declared.Refusal.{Refusal}
 
 -- "top written as the weight sum plus one"
 unfoldable pub top_of : List ℕ → ℕ
@@ -41,7 +41,7 @@ wcnf_text variables table =
 abbrev pub wcnf_write_why : ℕ → List ℕ → List ℕ → Judged
 wcnf_write_why variables table out = text_why (table_why variables table) (wcnf_text variables table) out
 
-abbrev pub wcnf_written : ℕ → List ℕ → List ℕ → Written
+abbrev pub wcnf_written : ℕ → List ℕ → List ℕ → Result ℕ Refusal
 wcnf_written variables table out = text_written (table_why variables table) (wcnf_text variables table) out
 
 -- the lent bytes afterwards

@@ -85,15 +85,15 @@ pub enum Status {
 
 // The best reading that a search met.
 #[derive(Clone, Copy)]
-pub enum Best {
-    Nothing,
-    Reading { weight: u64, reading: u64 },
+pub struct Best {
+    pub weight: u64,
+    pub reading: u64,
 }
 
 #[derive(Clone, Copy)]
 pub struct Found {
     pub status: Status,
-    pub best: Best,
+    pub best: Option<Best>,
     pub nodes: u64,
 }
 
@@ -127,18 +127,11 @@ pub enum Refusal {
 #[derive(Clone, Copy)]
 pub struct Numbered(pub u64, pub u64);
 
-// The answer of a call that has nothing else to say.
+// The weight of a reading, and whether every hard row holds.
 #[derive(Clone, Copy)]
-pub enum Judged {
-    Fine,
-    Refused(Refusal),
-}
-
-// The weight of a reading and whether every hard row holds, or why there is none.
-#[derive(Clone, Copy)]
-pub enum Weighed {
-    Weight { weight: u64, hold: bool },
-    Refused(Refusal),
+pub struct Weight {
+    pub weight: u64,
+    pub hold: bool,
 }
 
 // Where a bound comes from: what is conceded, what is lost beyond that, and what is foreseen. The first two are certain.
@@ -156,109 +149,44 @@ pub enum Choice {
     Groups,
 }
 
-// The bound of a desk, or why there is none.
+// What an input of a program comes to: a search of so many variables, with the losses at its root.
 #[derive(Clone, Copy)]
-pub enum Bounded {
-    Bound(Losses),
-    Refused(Refusal),
+pub struct Outcome {
+    pub variables: u64,
+    pub root: Losses,
+    pub found: Found,
 }
 
-// What a search found, or why it was refused.
+// The first three lines of a text, and the place behind them.
 #[derive(Clone, Copy)]
-pub enum Searched {
-    Found(Found),
-    Refused(Refusal),
+pub struct HeadRead {
+    pub variables: u64,
+    pub budget: u64,
+    pub rows: u64,
+    pub next: usize,
 }
 
-// What an input of a program comes to: a search of so many variables, with the losses at its root, or why it was refused.
+// What a text says beside its rows.
 #[derive(Clone, Copy)]
-pub enum Outcome {
-    Searched {
-        variables: u64,
-        root: Losses,
-        found: Found,
-    },
-    Refused(Refusal),
+pub struct TextRead {
+    pub variables: u64,
+    pub budget: u64,
+    pub rows: u64,
 }
 
-// A number of a text and the place behind it, or none that the form allows.
+// What the header of a competition file says, with the place behind it and its line.
 #[derive(Clone, Copy)]
-pub enum Parsed {
-    Number { value: u64, next: usize },
-    Broken,
+pub struct WcnfHead {
+    pub variables: u64,
+    pub clauses: u64,
+    pub top: u64,
+    pub next: usize,
+    pub line: u64,
 }
 
-// A literal of a text and the place behind it, in the definitions' words: sign and variable. The reader's own is a signed number.
+// What a competition file says beside its clauses.
 #[derive(Clone, Copy)]
-pub enum Signed {
-    Literal {
-        positive: bool,
-        variable: u64,
-        next: usize,
-    },
-    Broken,
-}
-
-// The literals of a line and the place behind the line.
-#[derive(Clone, Copy)]
-pub enum Listed {
-    Literals { lits: Lits, next: usize },
-    Broken,
-}
-
-// The three lines of a row and the place behind them, or the line that breaks the form.
-#[derive(Clone, Copy)]
-pub enum RowRead {
-    Lines { row: Row, next: usize },
-    Broken(u64),
-}
-
-// The first three lines and the place behind them, or the line that breaks the form.
-#[derive(Clone, Copy)]
-pub enum HeadRead {
-    Lines {
-        variables: u64,
-        budget: u64,
-        rows: u64,
-        next: usize,
-    },
-    Broken(u64),
-}
-
-// What a text says beside its rows, or why it is refused.
-#[derive(Clone, Copy)]
-pub enum TextRead {
-    Table {
-        variables: u64,
-        budget: u64,
-        rows: u64,
-    },
-    Refused(Refusal),
-}
-
-// What the header of a competition file says, with the place behind it and its line, or the first line that breaks the form.
-#[derive(Clone, Copy)]
-pub enum WcnfHead {
-    Figures {
-        variables: u64,
-        clauses: u64,
-        top: u64,
-        next: usize,
-        line: u64,
-    },
-    Broken(u64),
-}
-
-// What a competition file says beside its clauses, or why it is refused.
-#[derive(Clone, Copy)]
-pub enum WcnfRead {
-    Table { variables: u64, rows: u64 },
-    Refused(Refusal),
-}
-
-// How many bytes were written, or why none was.
-#[derive(Clone, Copy)]
-pub enum Written {
-    Bytes(usize),
-    Refused(Refusal),
+pub struct WcnfRead {
+    pub variables: u64,
+    pub rows: u64,
 }

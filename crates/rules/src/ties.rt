@@ -2,15 +2,12 @@
 ghost use Rattle.std.specs.Prelude.{◌≡◌};
 ghost use Rattle.rules.specs.Figures.{figures};
 
-use crate::{Desk, Entry, Figures, Parsed, Row, TextRead};
+use crate::{Desk, Entry, Figures, Row, TextRead};
 use literals::Literal;
 
-impl Parsed {
+impl TextRead {
     // Digits of a number.
     pub const DIGITS: usize = 10;
-}
-
-impl TextRead {
     // The largest budget.
     pub const MOST_BUDGET: u64 = 4_294_967_295;
     // Bytes that the program reads.
@@ -35,7 +32,7 @@ pub fn all_figures() -> Figures
         kind: Entry::MOST_KIND,
         named: Entry::NAMED,
         longest: Entry::LONGEST,
-        digits: Parsed::DIGITS,
+        digits: TextRead::DIGITS,
         budget: TextRead::MOST_BUDGET,
         input: TextRead::MOST_INPUT,
         input_rows: TextRead::MOST_INPUT_ROWS,

@@ -1,6 +1,7 @@
 -- The laws of the walk as laws of a search's answer, by either bound. An answer that is found, or a bound that is given, comes of a well-formed desk,
 -- and its parts are read off the walk; so done means not stopped, and a reading in the answer means that one is kept. Two answers for one desk, at two
 -- budgets, say when a search is stopped.
+use Rattle.std.specs.Prelude.{Some, None, Ok}
 use Prim.Native.Nat.{ℕ, suc, ◌^◌, ◌≤◌, ◌<◌}
 use mathlib.Core.Path.{◌≡◌, refl, sym, ap, ◌∙◌, subst}
 use mathlib.Core.List.{List}
@@ -13,13 +14,9 @@ use Rattle.masks.proofs.Choice.{impossible, clash, not_so}
 use Rattle.rules.specs.declared.Status.{Status}
 use Rattle.rules.specs.declared.Walked.{Walked}
 use Rattle.rules.specs.declared.Choice.{Choice}
-use Rattle.rules.specs.declared.Best.{Best}
 use Rattle.rules.specs.declared.Found.{Found}
 use Rattle.rules.specs.declared.Losses.{Losses}
-use Rattle.rules.specs.declared.Bounded.{Bounded}
 use Rattle.rules.specs.declared.Refusal.TheVariants.{BadDesk}
-use Rattle.rules.specs.declared.Judged.TheVariants.{Fine}
-use Rattle.rules.specs.declared.Searched.{Searched}
 use Rattle.rules.specs.Refusals.{refuse}
 use Rattle.rules.specs.Desk.{variables, decided, well_formed, decisions, desk_weighs, hard_hold_on, keeps}
 use Rattle.rules.specs.Bound.{desk_why}
@@ -35,23 +32,23 @@ use Rattle.search_laws.specs.Chief.{Chief, NoneHolds}
 -- ---- reading an answer
 
 -- a bound that is given
-pub bounded-well : (d : List ℕ) (choice : Choice) (l : Losses) → bounded d choice ≡ Bounded.Bound l
+pub bounded-well : (d : List ℕ) (choice : Choice) (l : Losses) → bounded d choice ≡ Ok l
     → (well_formed d ≡ true) × (l ≡ losses_by choice d (decisions d))
 unfolding bounded desk_why
 bounded-well d choice l = go (well_formed d)
   where
-    go : (t : Bool) → bounded_as (refuse (not t) BadDesk Fine) (losses_by choice d (decisions d)) ≡ Bounded.Bound l
+    go : (t : Bool) → bounded_as (refuse (not t) BadDesk (Ok tt)) (losses_by choice d (decisions d)) ≡ Ok l
         → (t ≡ true) × (l ≡ losses_by choice d (decisions d))
     go true e = (refl, cc)
     go false e = impossible (cc)
 
 -- an answer that is found
-pub found-well : (d : List ℕ) (choice : Choice) (budget : ℕ) (f : Found) → searched d choice budget ≡ Searched.Found f
+pub found-well : (d : List ℕ) (choice : Choice) (budget : ℕ) (f : Found) → searched d choice budget ≡ Ok f
     → (well_formed d ≡ true) × (f ≡ found_by (walk_in d choice budget))
 unfolding searched desk_why
 found-well d choice budget f = go (well_formed d)
   where
-    go : (t : Bool) → searched_as (refuse (not t) BadDesk Fine) (found_by (walk_in d choice budget)) ≡ Searched.Found f
+    go : (t : Bool) → searched_as (refuse (not t) BadDesk (Ok tt)) (found_by (walk_in d choice budget)) ≡ Ok f
         → (t ≡ true) × (f ≡ found_by (walk_in d choice budget))
     go true e = (refl, cc)
     go false e = impossible (cc)
@@ -79,11 +76,11 @@ status-stopped t k = (stopped-halted t k, λ e. rw e)
 pub finished-status : (t k : Bool) → (status_of t k ≡ Status.Stopped → ⊥) ↔ (t ≡ false)
 finished-status t k = (λ runs. not_so (λ e. runs (rw e)), λ e q. clash (stopped-halted t k q) e)
 
-reading-kept : (t : Bool) (weight reading w r : ℕ) → best_of t weight reading ≡ Best.Reading w r → (t ≡ true) × (weight ≡ w) × (reading ≡ r)
+reading-kept : (t : Bool) (weight reading w r : ℕ) → best_of t weight reading ≡ Some (record { weight = w; reading = r }) → (t ≡ true) × (weight ≡ w) × (reading ≡ r)
 reading-kept true weight reading w r e = (refl, cc, cc)
 reading-kept false weight reading w r e = impossible (cc)
 
-module _ (d : List ℕ) (choice : Choice) (budget : ℕ) (f : Found) (answer : searched d choice budget ≡ Searched.Found f) where
+module _ (d : List ℕ) (choice : Choice) (budget : ℕ) (f : Found) (answer : searched d choice budget ≡ Ok f) where
   well : well_formed d ≡ true
   well = (found-well d choice budget f answer).0
 
@@ -98,7 +95,7 @@ module _ (d : List ℕ) (choice : Choice) (budget : ℕ) (f : Found) (answer : s
 
   -- Demand 2: an answer that says done has the chief reading and its weight.
   pub done-chief : f.status ≡ Status.Done
-      → (weight : ℕ) × (reading : ℕ) × (f.best ≡ Best.Reading weight reading) × Chief tried_first d reading weight
+      → (weight : ℕ) × (reading : ℕ) × (f.best ≡ Some (record { weight = weight; reading = reading })) × Chief tried_first d reading weight
   done-chief e =
       let ends = done-running w.stopped w.kept (sym status-is ∙ e) in
       ⊎_elim
@@ -108,7 +105,7 @@ module _ (d : List ℕ) (choice : Choice) (budget : ℕ) (f : Found) (answer : s
       (search-right d choice budget well ends.0)
 
   -- one that says impossible has none, and there is none
-  pub impossible-none : f.status ≡ Status.Impossible → (f.best ≡ Best.Nothing) × NoneHolds d
+  pub impossible-none : f.status ≡ Status.Impossible → (f.best ≡ None) × NoneHolds d
   impossible-none e =
       let ends = impossible-running w.stopped w.kept (sym status-is ∙ e) in
       ⊎_elim
@@ -118,7 +115,7 @@ module _ (d : List ℕ) (choice : Choice) (budget : ℕ) (f : Found) (answer : s
       (search-right d choice budget well ends.0)
 
   -- any reading in an answer keeps the decisions, satisfies every hard row and weighs what is said
-  pub reading-weighs : (weight reading : ℕ) → f.best ≡ Best.Reading weight reading
+  pub reading-weighs : (weight reading : ℕ) → f.best ≡ Some (record { weight = weight; reading = reading })
       → (keeps d reading ≡ true) × (hard_hold_on d reading ≡ true) × (desk_weighs d reading ≡ weight)
   reading-weighs weight reading e =
       let k = reading-kept w.kept w.best w.reading weight reading (sym (ap (λ (x : Found). x.best) is) ∙ e) in
@@ -145,7 +142,7 @@ module _ (d : List ℕ) (choice : Choice) (budget : ℕ) (f : Found) (answer : s
       (search-nodes (price_of choice d) tried_first d budget)
 
   -- the same desk, searched with a larger budget
-  module _ (more : ℕ) (g : Found) (again : searched d choice more ≡ Searched.Found g) where
+  module _ (more : ℕ) (g : Found) (again : searched d choice more ≡ Ok g) where
     then : g ≡ found_by (walk_in d choice more)
     then = (found-well d choice more g again).1
 

@@ -7,7 +7,6 @@ ghost use Rattle.rules.specs.Program.{answer};
 ghost use Rattle.answer_lines.specs.Lengths.{most_answer};
 ghost use Rattle.streams.specs.Replies.{Replies};
 
-use rules::Written;
 use std::io;
 
 // No answer is longer.
@@ -18,10 +17,7 @@ fn reply(input: &[u8], output: &mut [u8]) -> usize
     requires { most_answer ≤ length output.old }
     ensures { Replies (answer input.now) result output.new }
 {
-    let Written::Bytes(n) = answer::answer(input, output) else {
-        return 0;
-    };
-    n
+    answer::answer(input, output).unwrap_or(0)
 }
 
 fn main(rt: HostRuntime) -> io::Result<()> {

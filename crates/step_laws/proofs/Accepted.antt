@@ -1,6 +1,7 @@
 -- An accepted rewriting, whatever its kind: taking it back is accepted and gives the words before it, the desk stays well formed and clean,
 -- and every reading that keeps the decisions weighs what it did.
 -- Each kind's debts (`yields`) make it a plan, and the laws of any plan do the rest: words, balance and undoing.
+use Rattle.std.specs.Prelude.{Ok}
 use Prim.Native.Nat.{ℕ, zero, suc, ◌+◌, ◌-◌, ◌*◌, ◌≤◌, ◌<◌}
 use mathlib.Core.Path.{◌≡◌, refl, sym, ap, ◌∙◌}
 use mathlib.Core.Logic.{◌⊎◌, inl, inr, ⊎_elim}
@@ -16,7 +17,6 @@ use Rattle.masks.specs.Sums.{sum, every}
 use Rattle.masks.proofs.Choice.{lt-or-le, same_test}
 use Rattle.masks.proofs.Sums.{sum-ext, smallest-le, every_true}
 use Rattle.literals.specs.declared.Lits.{Lits}
-use Rattle.rules.specs.declared.Judged.TheVariants.{Fine}
 use Rattle.rules.specs.Table.{most_weight, is_hard, bad_mark}
 use Rattle.rules.specs.Desk.{head_words, variables, in_use, capacity, standing, conceded, decided, truths, loaded, entry_words, row_place, entry_place}
 use Rattle.rules.specs.Desk.{desk_words, row_on, weight_on, weight_fits, decisions, remnant}
@@ -299,7 +299,7 @@ module _ (d : List ℕ) (kind : ℕ) (named : List ℕ) (ok : Rewritten d kind n
       rw (rewriting-undone d kind w named new owed plan clean owes) (unfold weight_fits in le-leb (weight_on d) most_weight ok.desk.light) in
       rw (counts, once, before, loads, adds-as, repaid, softs, light)
 
-  pub back-fine : Clean d → take_back_why after ≡ Fine
+  pub back-fine : Clean d → take_back_why after ≡ Ok tt
   unfolding take_back_why bad_last
   back-fine clean =
       rw (

@@ -1,6 +1,7 @@
 -- An accepted decision: taking it back is accepted and gives the words before it, and the desk stays well formed and clean.
 -- Rows and conceded are as before, so every reading weighs the same; and a reading that keeps the decisions after it keeps those before it.
 -- The variable was not decided, so its bit goes out of both masks as it came in.
+use Rattle.std.specs.Prelude.{Ok}
 use Prim.Native.Nat.{ℕ, ◌+◌, ◌-◌, ◌≤◌, ◌<◌, ◌^◌}
 use mathlib.Core.Path.{◌≡◌, sym, ap, ◌∙◌}
 use mathlib.Core.Logic.{inl, inr, ⊎_elim}
@@ -19,7 +20,6 @@ use Rattle.masks.proofs.Sets.{within, within_of, within-union, within-trans, has
 use Rattle.literals.specs.Literal.{size, is_positive, bit_of}
 use Rattle.literals.proofs.Opposites.{literal-sized}
 use Rattle.literals.specs.declared.Lits.{Lits}
-use Rattle.rules.specs.declared.Judged.TheVariants.{Fine}
 use Rattle.rules.specs.Desk.{head_words, variables, in_use, capacity, standing, decided, truths, entry_words, row_place, entry_place, desk_words, keeps}
 use Rattle.rules.specs.Decide.{decide_step}
 use Rattle.rules.specs.TakeBack.{last_variable, undo_decision, take_back_step, bad_decision, bad_last, take_back_why}
@@ -155,7 +155,7 @@ module _ (d : List ℕ) (l : ℤ) (ok : Decided d l) where
       next p a = rw (entry_next d (decide_step d l) (decided-capacity d l ok) (decided-standing d l (head-inside ok.desk))) at a
 
   -- taking it back is accepted
-  pub decision-fine : take_back_why (decide_step d l) ≡ Fine
+  pub decision-fine : take_back_why (decide_step d l) ≡ Ok tt
   unfolding take_back_why bad_last bad_decision
   decision-fine =
       rw (

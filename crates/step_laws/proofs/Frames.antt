@@ -1,5 +1,6 @@
 -- What no accepted call changes: the lent words' number, variables, capacity and rows loaded, and every word past the desk.
 -- A step's entry ends within the desk, and so do its rows, so a place past the desk is none that the step touches.
+use Rattle.std.specs.Prelude.{Ok}
 use Prim.Native.Nat.{ℕ, ◌+◌, ◌-◌, ◌*◌, ◌≤◌, ◌<◌}
 use mathlib.Core.Path.{◌≡◌, refl, ◌∙◌}
 use mathlib.Core.Logic.{inr}
@@ -8,7 +9,6 @@ use native.Mathlib.Nat.{le_trans}
 use native.Mathlib.Omega.{arith}
 use lib.IntN.{ℤ}
 use lib.ListN.{length, get_or}
-use Rattle.rules.specs.declared.Judged.TheVariants.{Fine}
 use Rattle.rules.specs.Desk.{head_words, in_use, capacity, standing, entry_words, row_place, desk_words}
 use Rattle.rules.specs.Decide.{decide_why, decide_step}
 use Rattle.rules.specs.Rewrite.{given, lightest, rewrite_why, rewrite_step}
@@ -46,7 +46,7 @@ past-desk c p h = omega arith
 past_row : (d : List ℕ) (j q : ℕ) → j < capacity d → row_place (capacity d) ≤ q → Outside q j
 past_row d j q h far = inr (le_trans (place_mono h) far)
 
-pub decide-framed : (d : List ℕ) (l : ℤ) → decide_why d l ≡ Fine → Framed d (decide_step d l)
+pub decide-framed : (d : List ℕ) (l : ℤ) → decide_why d l ≡ Ok tt → Framed d (decide_step d l)
 decide-framed d l fine =
     let ok = decide-fine d l fine in
     record {
@@ -59,7 +59,7 @@ decide-framed d l fine =
           decided-out d l p (λ q. omega arith) (λ q. omega arith) (λ q. omega arith) (inr (le_trans (entry-fits d (standing d) ok.room) h));
     }
 
-pub rewrite-framed : (d : List ℕ) (kind : ℕ) (named : List ℕ) → rewrite_why d kind named ≡ Fine → Framed d (rewrite_step d kind named)
+pub rewrite-framed : (d : List ℕ) (kind : ℕ) (named : List ℕ) → rewrite_why d kind named ≡ Ok tt → Framed d (rewrite_step d kind named)
 rewrite-framed d kind named fine =
     let ok = rewrite-fine d kind named fine in
     let w : ℕ = lightest d named in

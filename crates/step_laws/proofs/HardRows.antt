@@ -1,5 +1,6 @@
 -- Hard rows stay. A decision touches no row. A rewriting changes the weights of the rows it names, none of which is hard, and lays soft rows behind those
 -- in use.
+use Rattle.std.specs.Prelude.{Ok}
 use Prim.Native.Nat.{ℕ, suc, ◌+◌, ◌-◌, ◌*◌, ◌≤◌, ◌<◌}
 use mathlib.Core.Path.{◌≡◌, refl, sym, ap, ◌∙◌}
 use mathlib.Core.Logic.{⊎_elim}
@@ -12,7 +13,6 @@ use lib.ListN.{length, get_or}
 use Rattle.masks.proofs.Choice.{lt-or-le, clash}
 use Rattle.literals.specs.declared.Lits.{Lits}
 use Rattle.rules.specs.declared.Row.{Row}
-use Rattle.rules.specs.declared.Judged.TheVariants.{Fine}
 use Rattle.rules.specs.Table.{is_hard}
 use Rattle.rules.specs.Desk.{in_use, row_place, row_on}
 use Rattle.rules.specs.Decide.{decide_why, decide_step}
@@ -56,7 +56,7 @@ hard-then {a} {b} {c} f g =
           (lt-or-le i (in_use b));
     }
 
-pub decide-hard : (d : List ℕ) (l : ℤ) → decide_why d l ≡ Fine → HardStay d (decide_step d l)
+pub decide-hard : (d : List ℕ) (l : ℤ) → decide_why d l ≡ Ok tt → HardStay d (decide_step d l)
 decide-hard d l fine =
     let f = (decide-fine d l fine).desk in
     let used : in_use (decide_step d l) ≡ in_use d = decided-head d l 1 (omega arith) in
@@ -129,5 +129,5 @@ module _ (d : List ℕ) (kind : ℕ) (named : List ℕ) (ok : Rewritten d kind n
         soft = new-soft;
       }
 
-pub rewrite-hard : (d : List ℕ) (kind : ℕ) (named : List ℕ) → rewrite_why d kind named ≡ Fine → HardStay d (rewrite_step d kind named)
+pub rewrite-hard : (d : List ℕ) (kind : ℕ) (named : List ℕ) → rewrite_why d kind named ≡ Ok tt → HardStay d (rewrite_step d kind named)
 rewrite-hard d kind named fine = rw (step-rewritten d kind named) (rewritten-hard d kind named (rewrite-fine d kind named fine))

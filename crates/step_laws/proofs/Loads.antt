@@ -1,5 +1,6 @@
 -- An accepted load: the desk is well formed and clean, no step stands, nothing is conceded or decided, and every reading weighs what it does on the table.
 -- The words come in four runs: the head, the table, zeros to the desk's end, and what lay past it; each place is read in its run.
+use Rattle.std.specs.Prelude.{Ok}
 use Prim.Native.Nat.{ℕ, ◌+◌, ◌-◌, ◌*◌, ◌≤◌, ◌<◌}
 use mathlib.Core.Path.{◌≡◌, refl, ap, ap₂, ◌∙◌}
 use mathlib.Core.Bool.{Bool, ◌||◌}
@@ -19,9 +20,7 @@ use Rattle.masks.proofs.Sums.{sum-ext}
 use Rattle.literals.specs.Literal.{most_variables}
 use Rattle.rules.specs.declared.Row.{Row}
 use Rattle.rules.specs.declared.Refusal.TheVariants.{TooManyVariables, BadTable, BadCapacity, NoRoom, SumTooLarge}
-use Rattle.rules.specs.declared.Judged.{Judged}
-use Rattle.rules.specs.declared.Judged.TheVariants.{Fine}
-use Rattle.rules.specs.Refusals.{refuse, in_order}
+use Rattle.rules.specs.Refusals.{Judged, refuse, in_order}
 use Rattle.rules.specs.Table.{row_words, row_of, row_count, given_up, weighs, bad_table, rows_why, sum_too_large, table_why}
 use Rattle.rules.specs.Desk.{head_words, most_capacity, most_steps, entry_words, variables, in_use, capacity, standing, conceded, decided, truths, loaded}
 use Rattle.rules.specs.Desk.{row_place, entry_place, desk_words, row_on, weight_on, desk_weighs, load_why, load_step}
@@ -45,10 +44,10 @@ row-sound n row f =
       negatives = below-lt row.lits.negative n f.negative;
     }
 
-pub load-fine : (n : ℕ) (table : List ℕ) (c : ℕ) (d : List ℕ) → load_why n table c d ≡ Fine → Loaded n table c d
+pub load-fine : (n : ℕ) (table : List ℕ) (c : ℕ) (d : List ℕ) → load_why n table c d ≡ Ok tt → Loaded n table c d
 unfolding load_why table_why
 load-fine n table c d e =
-    let last : Judged = in_order (rows_why n table (row_count table)) (refuse (sum_too_large table) SumTooLarge Fine) in
+    let last : Judged = in_order (rows_why n table (row_count table)) (refuse (sum_too_large table) SumTooLarge (Ok tt)) in
     let room : Judged = refuse (ltb (length d) (desk_words c)) NoRoom last in
     let cap : Bool = ltb c (row_count table) || ltb most_capacity c in
     let a = refuse-fine (ltb most_variables n) TooManyVariables (refuse (bad_table table) BadTable (refuse cap BadCapacity room)) e in

@@ -1,5 +1,6 @@
 -- A replay from any load of the same table with the same row capacity: each standing step is accepted there, and the desk's own words come out the same.
 -- Words past the desk are as they were lent. And the masks of the head are those of the standing decisions.
+use Rattle.std.specs.Prelude.{Ok}
 use Prim.Native.Nat.{ℕ, ◌+◌, ◌-◌, ◌*◌, ◌≤◌, ◌<◌}
 use mathlib.Core.Path.{◌≡◌, refl, sym, ap, ◌∙◌}
 use mathlib.Core.Bool.{Bool, true, false, cond}
@@ -11,7 +12,6 @@ use lib.ListN.{length, get_or, take, drop, replicate, length-append, length-drop
 use lib.Seq.{get_or-drop, ext_get_or}
 use Rattle.masks.proofs.Sets.{or_assoc}
 use Rattle.literals.specs.Literal.{is_positive, bit_of}
-use Rattle.rules.specs.declared.Judged.TheVariants.{Fine}
 use Rattle.rules.specs.Table.{row_words, row_count, weighs}
 use Rattle.rules.specs.Desk.{most_steps, entry_words, capacity, decided, truths, row_place, desk_words, load_why, load_step}
 use Rattle.rules.specs.Decide.{decide_step}
@@ -26,7 +26,7 @@ use Rattle.step_laws.proofs.Runs.{Reached, laid_out, deciding, rewriting, Known,
 
 -- ---- two loads
 
-module _ (n : ℕ) (table : List ℕ) (c : ℕ) (d : List ℕ) (fine : load_why n table c d ≡ Fine) where
+module _ (n : ℕ) (table : List ℕ) (c : ℕ) (d : List ℕ) (fine : load_why n table c d ≡ Ok tt) where
   abbrev zeros : List ℕ
   zeros = replicate (row_words * c - length table + most_steps * entry_words) 0
 
@@ -52,7 +52,7 @@ module _ (n : ℕ) (table : List ℕ) (c : ℕ) (d : List ℕ) (fine : load_why 
   load-long : desk_words c ≤ length (load_step n table c d)
   load-long = let ok = load-fine n table c d fine in rw (length-loaded n table c d ok) ok.long
 
-loads-alike : (n : ℕ) (table : List ℕ) (c : ℕ) (d fresh : List ℕ) → load_why n table c d ≡ Fine → load_why n table c fresh ≡ Fine
+loads-alike : (n : ℕ) (table : List ℕ) (c : ℕ) (d fresh : List ℕ) → load_why n table c d ≡ Ok tt → load_why n table c fresh ≡ Ok tt
     → Alike c (load_step n table c d) (load_step n table c fresh)
 loads-alike n table c d fresh fine ok =
     record {
@@ -68,7 +68,7 @@ record Again (c : ℕ) (start : List ℕ) (x : List ℕ) (calls : List Call) : T
   reached : Reached start desk calls
   alike : Alike c x desk
 
-module _ (n : ℕ) (table : List ℕ) (c : ℕ) (lent fresh : List ℕ) (fine : load_why n table c lent ≡ Fine) (ok : load_why n table c fresh ≡ Fine) where
+module _ (n : ℕ) (table : List ℕ) (c : ℕ) (lent fresh : List ℕ) (fine : load_why n table c lent ≡ Ok tt) (ok : load_why n table c fresh ≡ Ok tt) where
   abbrev here : List ℕ
   here = load_step n table c lent
 
@@ -115,7 +115,7 @@ module _ (n : ℕ) (table : List ℕ) (c : ℕ) (lent fresh : List ℕ) (fine : 
     run-accepted-again = made_again there (weighs table) (base n table c fresh ok) other.reached
 
 -- words past the desk are as they were lent
-pub run-untouched : (n : ℕ) (table : List ℕ) (c : ℕ) (d : List ℕ) (fine : load_why n table c d ≡ Fine) (calls : List Call)
+pub run-untouched : (n : ℕ) (table : List ℕ) (c : ℕ) (d : List ℕ) (fine : load_why n table c d ≡ Ok tt) (calls : List Call)
     → LoadsRefused (load_step n table c d) calls → drop (desk_words c) (after_calls (load_step n table c d) calls) ≡ drop (desk_words c) d
 run-untouched n table c d fine calls loads =
     let after : List ℕ = after_calls (load_step n table c d) calls in
@@ -171,7 +171,7 @@ module _ (start : List ℕ) (none : (decided start ≡ 0) × (truths start ≡ 0
   made-true (rewriting {d} {calls} m kind named fine) =
       (rewrite-masks d kind named fine).1 ∙ made-true m ∙ sym (bits-rewrite (λ x. cond (is_positive x) (bit_of x) 0) calls kind named)
 
-module _ (n : ℕ) (table : List ℕ) (c : ℕ) (d : List ℕ) (fine : load_why n table c d ≡ Fine) (calls : List Call)
+module _ (n : ℕ) (table : List ℕ) (c : ℕ) (d : List ℕ) (fine : load_why n table c d ≡ Ok tt) (calls : List Call)
     (loads : LoadsRefused (load_step n table c d) calls) where
   pub run-masks : (decided (after_calls (load_step n table c d) calls) ≡ decided_by (standing_calls (load_step n table c d) calls))
       × (truths (after_calls (load_step n table c d) calls) ≡ true_by (standing_calls (load_step n table c d) calls))

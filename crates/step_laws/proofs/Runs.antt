@@ -2,6 +2,7 @@
 -- taking back its last step gives the desk before it again, and a refused call the desk itself. So each call leads from a reached desk to a reached desk,
 -- and what a reached desk is known by (well formed, clean, weights and hard rows as at the start, the load followed by its standing steps) holds after
 -- every run.
+use Rattle.std.specs.Prelude.{Ok, Err}
 use Prim.Native.Nat.{ℕ, zero, suc, ◌+◌, ◌≤◌}
 use mathlib.Core.Path.{◌≡◌, refl, sym, ap, ◌∙◌, subst, subst₂}
 use mathlib.Core.Bool.{Bool, true, false, not, ◌||◌}
@@ -15,10 +16,8 @@ use Rattle.masks.proofs.Choice.{impossible}
 use Rattle.rules.specs.declared.Refusal.{Refusal}
 use Rattle.rules.specs.declared.Refusal.TheVariants.{TooManyVariables, BadTable, BadCapacity, NoRoom, BadLiterals, BadWeight, SumTooLarge}
 use Rattle.rules.specs.declared.Refusal.TheVariants.{BadDesk, TooManySteps, BadLiteral, BadNaming, BadFit, DeskFull, NothingStands}
-use Rattle.rules.specs.declared.Judged.{Judged}
-use Rattle.rules.specs.declared.Judged.TheVariants.{Fine, Refused}
 use Rattle.literals.specs.Literal.{most_variables}
-use Rattle.rules.specs.Refusals.{refuse, in_order, unless_refused}
+use Rattle.rules.specs.Refusals.{Judged, refuse, in_order, unless_refused}
 use Rattle.rules.specs.Table.{row_of, row_count, weighs, bad_table, bad_lits, bad_weight, row_why, rows_why, sum_too_large}
 use Rattle.rules.specs.Desk.{desk_words, most_capacity, most_steps, in_use, capacity, standing, well_formed, load_why, load_step, load_desk, desk_weighs, keeps}
 use Rattle.rules.specs.Decide.{bad_literal, decide_why, decide_step, decide_desk}
@@ -40,9 +39,9 @@ use Rattle.step_laws.proofs.Steps.{rewrite-weighs, rewrite-keeps}
 -- a desk reached by calls, with the steps that stand on it
 pub data Reached (start : List ℕ) : List ℕ → List Call → Type 0 where
   laid_out : Reached start start []
-  deciding : {d : List ℕ} {calls : List Call} → Reached start d calls → (l : ℤ) → decide_why d l ≡ Fine
+  deciding : {d : List ℕ} {calls : List Call} → Reached start d calls → (l : ℤ) → decide_why d l ≡ Ok tt
       → Reached start (decide_step d l) (calls ++ (decide l ∷ []))
-  rewriting : {d : List ℕ} {calls : List Call} → Reached start d calls → (kind : ℕ) (named : List ℕ) → rewrite_why d kind named ≡ Fine
+  rewriting : {d : List ℕ} {calls : List Call} → Reached start d calls → (kind : ℕ) (named : List ℕ) → rewrite_why d kind named ≡ Ok tt
       → Reached start (rewrite_step d kind named) (calls ++ (rewrite kind named ∷ []))
 
 -- ---- calls in order
@@ -61,10 +60,10 @@ by-step d (rewrite kind named) = refl
 by-step d take_back = refl
 by-step d (load n table c) = refl
 
-pub after-fine : (d : List ℕ) (call : Call) → call_why d call ≡ Fine → after_call d call ≡ call_step d call
+pub after-fine : (d : List ℕ) (call : Call) → call_why d call ≡ Ok tt → after_call d call ≡ call_step d call
 after-fine d call e = by-step d call ∙ rw e
 
-pub after-refused : (d : List ℕ) (call : Call) (r : Refusal) → call_why d call ≡ Refused r → after_call d call ≡ d
+pub after-refused : (d : List ℕ) (call : Call) (r : Refusal) → call_why d call ≡ Err r → after_call d call ≡ d
 after-refused d call r e = by-step d call ∙ rw e
 
 pub calls-append : (d : List ℕ) (xs ys : List Call) → after_calls d (xs ++ ys) ≡ after_calls (after_calls d xs) ys
@@ -87,7 +86,7 @@ pub record Known (start : List ℕ) (weight : ℕ → ℕ) (d : List ℕ) (calls
   pub framed : Framed start d
   pub hard : HardStay start d
 
-one_more : (start d : List ℕ) (calls : List Call) (call : Call) → d ≡ after_calls start calls → call_why d call ≡ Fine
+one_more : (start d : List ℕ) (calls : List Call) (call : Call) → d ≡ after_calls start calls → call_why d call ≡ Ok tt
     → call_step d call ≡ after_calls start (calls ++ (call ∷ []))
 one_more start d calls call e fine =
     sym (after-fine d call fine) ∙ ap (λ (x : List ℕ). after_call x call) e ∙ sym (calls-append start calls (call ∷ []) ∙ (unfold after_calls in refl))
@@ -120,47 +119,47 @@ known start weight k (rewriting {d} {calls} m kind named fine) =
 
 -- ---- on a well-formed desk, a decision or a rewriting is never refused with 10
 
-neither-ten : (b : Bool) (r : Refusal) (after : Judged) → (r ≡ BadDesk → ⊥) → (after ≡ Refused BadDesk → ⊥) → refuse b r after ≡ Refused BadDesk → ⊥
+neither-ten : (b : Bool) (r : Refusal) (after : Judged) → (r ≡ BadDesk → ⊥) → (after ≡ Err BadDesk → ⊥) → refuse b r after ≡ Err BadDesk → ⊥
 neither-ten true r after h k e = h (cc)
 neither-ten false r after h k e = k e
 
-fine-not-ten : Fine ≡ Refused BadDesk → ⊥
+fine-not-ten : (Ok tt) ≡ Err BadDesk → ⊥
 fine-not-ten e = impossible (cc)
 
-pub never-decide : (d : List ℕ) (l : ℤ) → well_formed d ≡ true → decide_why d l ≡ Refused BadDesk → ⊥
+pub never-decide : (d : List ℕ) (l : ℤ) → well_formed d ≡ true → decide_why d l ≡ Err BadDesk → ⊥
 unfolding decide_why
 never-decide d l w e =
-    neither-ten (leb most_steps (standing d)) TooManySteps (refuse (bad_literal d l) BadLiteral Fine) (λ q. impossible (cc))
-    (neither-ten (bad_literal d l) BadLiteral Fine (λ q. impossible (cc)) fine-not-ten)
+    neither-ten (leb most_steps (standing d)) TooManySteps (refuse (bad_literal d l) BadLiteral (Ok tt)) (λ q. impossible (cc))
+    (neither-ten (bad_literal d l) BadLiteral (Ok tt) (λ q. impossible (cc)) fine-not-ten)
     (rw w at e)
 
-pub never-rewrite : (d : List ℕ) (kind : ℕ) (named : List ℕ) → well_formed d ≡ true → rewrite_why d kind named ≡ Refused BadDesk → ⊥
+pub never-rewrite : (d : List ℕ) (kind : ℕ) (named : List ℕ) → well_formed d ≡ true → rewrite_why d kind named ≡ Err BadDesk → ⊥
 unfolding rewrite_why
 never-rewrite d kind named w e =
     let full : Bool = ltb (capacity d) (in_use d + length (stored (given d kind named))) in
-    let last : Judged = refuse full DeskFull Fine in
+    let last : Judged = refuse full DeskFull (Ok tt) in
     let fit : Judged = refuse (not (well_fitted d kind named)) BadFit last in
     neither-ten (leb most_steps (standing d)) TooManySteps (refuse (not (well_named d kind named)) BadNaming fit) (λ q. impossible (cc))
     (neither-ten (not (well_named d kind named)) BadNaming fit (λ q. impossible (cc))
     (neither-ten (not (well_fitted d kind named)) BadFit last (λ q. impossible (cc))
-    (neither-ten full DeskFull Fine (λ q. impossible (cc)) fine-not-ten)))
+    (neither-ten full DeskFull (Ok tt) (λ q. impossible (cc)) fine-not-ten)))
     (rw w at e)
 
 -- a load is not refused so on any words
-neither-first : (first after : Judged) → (first ≡ Refused BadDesk → ⊥) → (after ≡ Refused BadDesk → ⊥) → in_order first after ≡ Refused BadDesk → ⊥
-neither-first Fine after h k e = k e
-neither-first (Refused r) after h k e = h e
+neither-first : (first after : Judged) → (first ≡ Err BadDesk → ⊥) → (after ≡ Err BadDesk → ⊥) → in_order first after ≡ Err BadDesk → ⊥
+neither-first (Ok _) after h k e = k e
+neither-first (Err r) after h k e = h e
 
-never-rows : (n : ℕ) (table : List ℕ) (k : ℕ) → rows_why n table k ≡ Refused BadDesk → ⊥
+never-rows : (n : ℕ) (table : List ℕ) (k : ℕ) → rows_why n table k ≡ Err BadDesk → ⊥
 unfolding rows_why row_why
 never-rows n table zero e = fine-not-ten e
 never-rows n table (suc k) e =
     neither-first (rows_why n table k) (row_why n k (row_of table k)) (never-rows n table k)
-    (neither-ten (bad_lits n (row_of table k).lits) (BadLiterals k) (refuse (bad_weight (row_of table k)) (BadWeight k) Fine) (λ q. impossible (cc))
-    (neither-ten (bad_weight (row_of table k)) (BadWeight k) Fine (λ q. impossible (cc)) fine-not-ten))
+    (neither-ten (bad_lits n (row_of table k).lits) (BadLiterals k) (refuse (bad_weight (row_of table k)) (BadWeight k) (Ok tt)) (λ q. impossible (cc))
+    (neither-ten (bad_weight (row_of table k)) (BadWeight k) (Ok tt) (λ q. impossible (cc)) fine-not-ten))
     e
 
-pub never-load : (n : ℕ) (table : List ℕ) (c : ℕ) (d : List ℕ) → load_why n table c d ≡ Refused BadDesk → ⊥
+pub never-load : (n : ℕ) (table : List ℕ) (c : ℕ) (d : List ℕ) → load_why n table c d ≡ Err BadDesk → ⊥
 unfolding load_why
 never-load n table c d e =
     neither-ten (ltb most_variables n) TooManyVariables _ (λ q. impossible (cc))
@@ -168,19 +167,19 @@ never-load n table c d e =
     (neither-ten (ltb c (row_count table) || ltb most_capacity c) BadCapacity _ (λ q. impossible (cc))
     (neither-ten (ltb (length d) (desk_words c)) NoRoom _ (λ q. impossible (cc))
     (neither-first (rows_why n table (row_count table)) _ (never-rows n table (row_count table))
-    (neither-ten (sum_too_large table) SumTooLarge Fine (λ q. impossible (cc)) fine-not-ten)))))
+    (neither-ten (sum_too_large table) SumTooLarge (Ok tt) (λ q. impossible (cc)) fine-not-ten)))))
     e
 
 -- ---- each call, from a reached desk to a reached desk
 
 module _ (start : List ℕ) (weight : ℕ → ℕ) (base : Known start weight start []) (nothing : standing start ≡ 0) where
   -- where no step stands there is nothing to take back
-  start-refuses : take_back_why start ≡ Refused NothingStands
+  start-refuses : take_back_why start ≡ Err NothingStands
   unfolding take_back_why
   start-refuses = rw (base.formed, nothing)
 
   -- a step that stands can be taken back, and its desk is as before
-  pub taken_back : {d : List ℕ} {calls : List Call} → Reached start d calls → take_back_why d ≡ Fine → Reached start (take_back_step d) (without_last calls)
+  pub taken_back : {d : List ℕ} {calls : List Call} → Reached start d calls → take_back_why d ≡ Ok tt → Reached start (take_back_step d) (without_last calls)
   taken_back laid_out e = impossible (cc (start-refuses))
   taken_back (deciding {d} {calls} m l fine) e =
       subst₂ (Reached start) (sym (decide-undone d l fine (known start weight base m).clean).1) (sym (last_off calls (decide l))) m
@@ -190,14 +189,14 @@ module _ (start : List ℕ) (weight : ℕ → ℕ) (base : Known start weight st
   -- whatever a call's judgement is
   judged : {d : List ℕ} {calls : List Call} → Reached start d calls → (call : Call) → LoadRefused d call → (j : Judged) → call_why d call ≡ j
       → Reached start (unless_refused j (call_step d call) d) (standing_after j call calls)
-  judged m (decide l) unless Fine e = deciding m l e
-  judged m (rewrite kind named) unless Fine e = rewriting m kind named e
-  judged m take_back unless Fine e = taken_back m e
-  judged m (load n table c) unless Fine e = absurd (unless e)
-  judged m (decide l) unless (Refused r) e = m
-  judged m (rewrite kind named) unless (Refused r) e = m
-  judged m take_back unless (Refused r) e = m
-  judged m (load n table c) unless (Refused r) e = m
+  judged m (decide l) unless (Ok _) e = deciding m l e
+  judged m (rewrite kind named) unless (Ok _) e = rewriting m kind named e
+  judged m take_back unless (Ok _) e = taken_back m e
+  judged m (load n table c) unless (Ok _) e = absurd (unless e)
+  judged m (decide l) unless (Err r) e = m
+  judged m (rewrite kind named) unless (Err r) e = m
+  judged m take_back unless (Err r) e = m
+  judged m (load n table c) unless (Err r) e = m
 
   pub called : {d : List ℕ} {calls : List Call} → Reached start d calls → (call : Call) → LoadRefused d call
       → Reached start (after_call d call) (standing_after (call_why d call) call calls)
@@ -206,12 +205,12 @@ module _ (start : List ℕ) (weight : ℕ → ℕ) (base : Known start weight st
 
   -- ---- never a 10
 
-  never_back : {d : List ℕ} {calls : List Call} → Reached start d calls → take_back_why d ≡ Refused BadDesk → ⊥
+  never_back : {d : List ℕ} {calls : List Call} → Reached start d calls → take_back_why d ≡ Err BadDesk → ⊥
   never_back laid_out e = impossible (cc (start-refuses))
   never_back (deciding {d} m l fine) e = impossible (cc (decide-undone d l fine (known start weight base m).clean).0)
   never_back (rewriting {d} m kind named fine) e = impossible (cc (rewrite-undone d kind named fine (known start weight base m).clean).0)
 
-  pub never-ten : {d : List ℕ} {calls : List Call} → Reached start d calls → (call : Call) → call_why d call ≡ Refused BadDesk → ⊥
+  pub never-ten : {d : List ℕ} {calls : List Call} → Reached start d calls → (call : Call) → call_why d call ≡ Err BadDesk → ⊥
   never-ten {d} m (decide l) e = never-decide d l (known start weight base m).formed e
   never-ten {d} m (rewrite kind named) e = never-rewrite d kind named (known start weight base m).formed e
   never-ten m take_back e = never_back m e
@@ -232,7 +231,7 @@ module _ (start : List ℕ) (weight : ℕ → ℕ) (base : Known start weight st
 -- ---- what stands can be made again, and taken back
 
 module _ (start : List ℕ) (weight : ℕ → ℕ) (base : Known start weight start []) where
-  one-more-fine : (d : List ℕ) (calls : List Call) (call : Call) → AllFine d calls → call_why (after_calls d calls) call ≡ Fine → AllFine d (calls ++ (call ∷ []))
+  one-more-fine : (d : List ℕ) (calls : List Call) (call : Call) → AllFine d calls → call_why (after_calls d calls) call ≡ Ok tt → AllFine d (calls ++ (call ∷ []))
   unfolding after_calls
   one-more-fine d [] call a e = (e, tt)
   one-more-fine d (x ∷ calls) call a e = (a.0, one-more-fine (after_call d x) calls call a.1 e)
@@ -250,7 +249,7 @@ module _ (start : List ℕ) (weight : ℕ → ℕ) (base : Known start weight st
       rewrite-standing d kind named fine ∙ omega (arith, made-standing z m, length-append calls (rewrite kind named ∷ []))
 
   -- a taking back for each standing step
-  unwind : (d e : List ℕ) (calls : List Call) (call : Call) → take_back_why e ≡ Fine → take_back_step e ≡ d
+  unwind : (d e : List ℕ) (calls : List Call) (call : Call) → take_back_why e ≡ Ok tt → take_back_step e ≡ d
       → after_calls d (replicate (length calls) take_back) ≡ start
       → after_calls e (replicate (length (calls ++ (call ∷ []))) take_back) ≡ start
   unfolding after_calls
@@ -270,7 +269,7 @@ module _ (start : List ℕ) (weight : ℕ → ℕ) (base : Known start weight st
 
 -- ---- demand 3, for every accepted load and every run of calls
 
-module _ (n : ℕ) (table : List ℕ) (c : ℕ) (d : List ℕ) (fine : load_why n table c d ≡ Fine) where
+module _ (n : ℕ) (table : List ℕ) (c : ℕ) (d : List ℕ) (fine : load_why n table c d ≡ Ok tt) where
   pub base : Known (load_step n table c d) (weighs table) (load_step n table c d) []
   unfolding after_calls
   base =
@@ -283,7 +282,7 @@ module _ (n : ℕ) (table : List ℕ) (c : ℕ) (d : List ℕ) (fine : load_why 
         hard = hard-same (load_step n table c d);
       }
 
-module _ (n : ℕ) (table : List ℕ) (c : ℕ) (d : List ℕ) (fine : load_why n table c d ≡ Fine) (calls : List Call)
+module _ (n : ℕ) (table : List ℕ) (c : ℕ) (d : List ℕ) (fine : load_why n table c d ≡ Ok tt) (calls : List Call)
     (loads : LoadsRefused (load_step n table c d) calls) where
   abbrev start : List ℕ
   start = load_step n table c d

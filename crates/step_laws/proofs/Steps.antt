@@ -1,5 +1,6 @@
 -- The laws of single steps, by call: undone, kept well formed and clean, weights kept. Each only puts together what the files below prove.
 -- An accepted call says that its desk is well formed, so no law asks for it again.
+use Rattle.std.specs.Prelude.{Ok}
 use Prim.Native.Nat.{ℕ, ◌+◌, ◌*◌, ◌≤◌}
 use mathlib.Core.Path.{◌≡◌, sym, ◌∙◌}
 use mathlib.Core.Bool.{true, cond}
@@ -9,7 +10,6 @@ use lib.Bits.{bit_or}
 use lib.IntN.{ℤ}
 use lib.ListN.{length}
 use Rattle.literals.specs.Literal.{is_positive, bit_of}
-use Rattle.rules.specs.declared.Judged.TheVariants.{Fine}
 use Rattle.rules.specs.Table.{weighs}
 use Rattle.rules.specs.Desk.{variables, weight_on, standing, conceded, decided, truths, well_formed, load_why, load_step, desk_weighs, keeps}
 use Rattle.rules.specs.Decide.{decide_why, decide_step}
@@ -30,7 +30,7 @@ use Rattle.step_laws.proofs.Loads.{load-fine, loaded-formed, loaded-clean, loade
 
 -- ---- load
 
-module _ (n : ℕ) (table : List ℕ) (c : ℕ) (d : List ℕ) (fine : load_why n table c d ≡ Fine) where
+module _ (n : ℕ) (table : List ℕ) (c : ℕ) (d : List ℕ) (fine : load_why n table c d ≡ Ok tt) where
   pub load-formed : well_formed (load_step n table c d) ≡ true
   load-formed = well (loaded-formed n table c d (load-fine n table c d fine))
 
@@ -46,8 +46,8 @@ module _ (n : ℕ) (table : List ℕ) (c : ℕ) (d : List ℕ) (fine : load_why 
 
 -- ---- decide
 
-module _ (d : List ℕ) (l : ℤ) (fine : decide_why d l ≡ Fine) where
-  pub decide-undone : Clean d → (take_back_why (decide_step d l) ≡ Fine) × (take_back_step (decide_step d l) ≡ d)
+module _ (d : List ℕ) (l : ℤ) (fine : decide_why d l ≡ Ok tt) where
+  pub decide-undone : Clean d → (take_back_why (decide_step d l) ≡ Ok tt) × (take_back_step (decide_step d l) ≡ d)
   decide-undone clean = (decision-fine d l (decide-fine d l fine), decision-undone d l (decide-fine d l fine) clean)
 
   pub decide-standing : standing (decide_step d l) ≡ standing d + 1
@@ -75,8 +75,8 @@ module _ (d : List ℕ) (l : ℤ) (fine : decide_why d l ≡ Fine) where
 
 -- ---- merge, shift, chain, fork
 
-module _ (d : List ℕ) (kind : ℕ) (named : List ℕ) (fine : rewrite_why d kind named ≡ Fine) where
-  pub rewrite-undone : Clean d → (take_back_why (rewrite_step d kind named) ≡ Fine) × (take_back_step (rewrite_step d kind named) ≡ d)
+module _ (d : List ℕ) (kind : ℕ) (named : List ℕ) (fine : rewrite_why d kind named ≡ Ok tt) where
+  pub rewrite-undone : Clean d → (take_back_why (rewrite_step d kind named) ≡ Ok tt) × (take_back_step (rewrite_step d kind named) ≡ d)
   rewrite-undone clean =
       let ok = rewrite-fine d kind named fine in
       rw (step-rewritten d kind named) (back-fine d kind named ok clean, undone d kind named ok clean)

@@ -1,6 +1,7 @@
 -- Any accepted taking back leaves a well-formed clean desk well formed and clean, also one that no call has made.
 -- What the judge of the last entry found gives the bounds: named rows lie below the first new row, that is not below the rows loaded
 -- nor above the rows in use, and (d) was looked at afterwards.
+use Rattle.std.specs.Prelude.{Ok}
 use Prim.Native.Nat.{ℕ, ◌+◌, ◌-◌, ◌≤◌, ◌<◌}
 use mathlib.Core.Path.{◌≡◌}
 use mathlib.Core.Logic.{⊎_elim}
@@ -15,7 +16,6 @@ use Rattle.masks.specs.Sums.{every}
 use Rattle.masks.proofs.Choice.{cases, and_right, or_cases, or-none}
 use Rattle.masks.proofs.Sums.{every-at}
 use Rattle.rules.specs.declared.Refusal.TheVariants.{BadDesk, NothingStands}
-use Rattle.rules.specs.declared.Judged.TheVariants.{Fine}
 use Rattle.rules.specs.Refusals.{refuse}
 use Rattle.rules.specs.Table.{most_weight, is_hard}
 use Rattle.rules.specs.Desk.{head_words, in_use, capacity, standing, conceded, loaded, row_on, weight_on, weight_fits, well_formed}
@@ -37,15 +37,15 @@ pub record Taken (d : List ℕ) : Type 0 where
   pub some : 1 ≤ standing d
   pub entry : bad_last d ≡ false
 
-pub take-back-fine : (d : List ℕ) → take_back_why d ≡ Fine → Taken d
+pub take-back-fine : (d : List ℕ) → take_back_why d ≡ Ok tt → Taken d
 unfolding take_back_why
 take-back-fine d e =
-    let a = refuse-fine (not (well_formed d)) BadDesk (refuse (eqb (standing d) 0) NothingStands (refuse (bad_last d) BadDesk Fine)) e in
-    let b = refuse-fine (eqb (standing d) 0) NothingStands (refuse (bad_last d) BadDesk Fine) a.1 in
+    let a = refuse-fine (not (well_formed d)) BadDesk (refuse (eqb (standing d) 0) NothingStands (refuse (bad_last d) BadDesk (Ok tt))) e in
+    let b = refuse-fine (eqb (standing d) 0) NothingStands (refuse (bad_last d) BadDesk (Ok tt)) a.1 in
     record {
       desk = formed d (not-false (well_formed d) a.0);
       some = omega (arith, eqb-false (standing d) 0 b.0);
-      entry = (refuse-fine (bad_last d) BadDesk Fine b.1).0;
+      entry = (refuse-fine (bad_last d) BadDesk (Ok tt) b.1).0;
     }
 
 -- a rewriting's entry that is not bad
@@ -97,7 +97,7 @@ entry-fine d low high e =
       light = not-false t6 h.1;
     }
 
-module _ (d : List ℕ) (clean : Clean d) (fine : take_back_why d ≡ Fine) where
+module _ (d : List ℕ) (clean : Clean d) (fine : take_back_why d ≡ Ok tt) where
   abbrev Kept : List ℕ → Type 0
   Kept e = (well_formed e ≡ true) × Clean e × Framed d e
 

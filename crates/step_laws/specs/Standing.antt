@@ -1,11 +1,10 @@
 -- The steps that stand after a run of calls, in the order in which they were made.
 -- An accepted decision or rewriting comes to stand, an accepted taking back removes the last, behind an accepted load none stands, a refused call
 -- changes nothing.
-use Rattle.std.specs.Prelude.{ℕ, ◌≡◌, cond, List, [], ◌∷◌, ◌++◌, ℤ}
+use Rattle.std.specs.Prelude.{ℕ, ◌≡◌, cond, List, [], ◌∷◌, ◌++◌, ℤ, Ok, Err}
 use Rattle.std.specs.Int.Bits.{bit_or}
 use Rattle.literals.specs.Literal.{is_positive, bit_of}
-use Rattle.rules.specs.declared.Judged.{Judged}
-use Rattle.rules.specs.declared.Judged.TheVariants.{Fine, Refused}
+use Rattle.rules.specs.Refusals.{Judged}
 use Rattle.rules.specs.declared.Refusal.TheVariants.{BadDesk}
 use Rattle.rules.specs.Calls.{Call, decide, rewrite, take_back, load, call_why, after_call}
 
@@ -16,11 +15,11 @@ without_last (x ∷ y ∷ l) = x ∷ without_last (y ∷ l)
 
 -- the standing steps after a call, from those before it
 abbrev pub standing_after : Judged → Call → List Call → List Call
-standing_after (Refused r) call before = before
-standing_after Fine (decide l) before = before ++ (decide l ∷ [])
-standing_after Fine (rewrite kind named) before = before ++ (rewrite kind named ∷ [])
-standing_after Fine take_back before = without_last before
-standing_after Fine (load n table c) before = []
+standing_after (Err r) call before = before
+standing_after (Ok _) (decide l) before = before ++ (decide l ∷ [])
+standing_after (Ok _) (rewrite kind named) before = before ++ (rewrite kind named ∷ [])
+standing_after (Ok _) take_back before = without_last before
+standing_after (Ok _) (load n table c) before = []
 
 unfoldable pub standing_from : List ℕ → List Call → List Call → List Call
 standing_from d before [] = before
@@ -33,16 +32,16 @@ standing_calls d calls = standing_from d [] calls
 -- every call of the run is accepted
 abbrev pub AllFine : List ℕ → List Call → Type 0
 AllFine d [] = Unit
-AllFine d (call ∷ calls) = (call_why d call ≡ Fine) × AllFine (after_call d call) calls
+AllFine d (call ∷ calls) = (call_why d call ≡ Ok tt) × AllFine (after_call d call) calls
 
 -- "calls alone .. never bring about a 10": no call of the run is refused so
 abbrev pub NeverTen : List ℕ → List Call → Type 0
 NeverTen d [] = Unit
-NeverTen d (call ∷ calls) = (call_why d call ≡ Refused BadDesk → ⊥) × NeverTen (after_call d call) calls
+NeverTen d (call ∷ calls) = (call_why d call ≡ Err BadDesk → ⊥) × NeverTen (after_call d call) calls
 
 -- every load of the run is refused where it comes
 abbrev pub LoadRefused : List ℕ → Call → Type 0
-LoadRefused d (load n table c) = call_why d (load n table c) ≡ Fine → ⊥
+LoadRefused d (load n table c) = call_why d (load n table c) ≡ Ok tt → ⊥
 LoadRefused d (decide l) = Unit
 LoadRefused d (rewrite kind named) = Unit
 LoadRefused d take_back = Unit

@@ -5,7 +5,7 @@ ghost use Rattle.tables.specs.Judge.{rows_and_sum_why};
 
 use crate::inner::sum_over;
 use literals::Literal;
-use rules::{Judged, Refusal, Row};
+use rules::{Refusal, Row};
 use values::row_why;
 use words::inner::row_in;
 
@@ -17,45 +17,39 @@ pub fn bad_table(table: &[u64]) -> bool
 }
 
 // Whether an admissible table it is, for a count of variables, or the refusal.
-pub fn table_why(variables: u64, table: &[u64]) -> Judged
+pub fn table_why(variables: u64, table: &[u64]) -> Result<(), Refusal>
     ensures { result ≡ table_why variables table.now }
 {
     if variables > Literal::MOST {
-        return Judged::Refused(Refusal::TooManyVariables);
+        return Err(Refusal::TooManyVariables);
     }
     if bad_table(table) {
-        return Judged::Refused(Refusal::BadTable);
+        return Err(Refusal::BadTable);
     }
     rows_and_sum(variables, table)
 }
 
 // The rows in order with 5 before 6, then 7.
-pub fn rows_and_sum(variables: u64, table: &[u64]) -> Judged
+pub fn rows_and_sum(variables: u64, table: &[u64]) -> Result<(), Refusal>
     ensures { result ≡ rows_and_sum_why variables table.now }
 {
     let n = table.len() / Row::WORDS;
-    let why = rows_why(variables, table, n);
-    let Judged::Fine = why else {
-        return why;
-    };
+    rows_why(variables, table, n)?;
     if sum_over(table, 0, n, 0) {
-        return Judged::Refused(Refusal::SumTooLarge);
+        return Err(Refusal::SumTooLarge);
     }
-    Judged::Fine
+    Ok(())
 }
 
 // The first refusal among the first n rows.
-fn rows_why(variables: u64, table: &[u64], n: usize) -> Judged
+fn rows_why(variables: u64, table: &[u64], n: usize) -> Result<(), Refusal>
     requires { row_words * n ≤ length table.now }
     ensures { result ≡ rows_why variables table.now n }
 {
     let mut i = 0;
     while i < n {
-        let why = row_why(variables, i as u64, row_in(table, Row::WORDS * i));
-        let Judged::Fine = why else {
-            return why;
-        };
+        row_why(variables, i as u64, row_in(table, Row::WORDS * i))?;
         i += 1;
     }
-    Judged::Fine
+    Ok(())
 }

@@ -4,38 +4,30 @@ ghost use Rattle.masks.specs.Sums.{sum, every};
 ghost use Rattle.rules.specs.Table.{row_words, most_weight, row_of, given_up, breaks, weighed, weigh_why};
 
 use crate::judge::table_why;
-use rules::{Judged, Refusal, Row, Weighed};
+use rules::{Refusal, Row, Weight};
 use values::breaks;
 use words::inner::row_in;
 
 // What a full reading weighs, and whether every hard row holds, or the refusal.
-pub fn weight_of(variables: u64, table: &[u64], reading: u64) -> Weighed
+pub fn weight_of(variables: u64, table: &[u64], reading: u64) -> Result<Weight, Refusal>
     ensures { result ≡ weighed variables table.now reading }
 {
-    let why = weigh_why(variables, table, reading);
-    match why {
-        Judged::Refused(r) => Weighed::Refused(r),
-        Judged::Fine => {
-            let n = table.len() / Row::WORDS;
-            Weighed::Weight {
-                weight: given_up(table, n, reading),
-                hold: hard_hold(table, n, reading),
-            }
-        }
-    }
+    weigh_why(variables, table, reading)?;
+    let n = table.len() / Row::WORDS;
+    Ok(Weight {
+        weight: given_up(table, n, reading),
+        hold: hard_hold(table, n, reading),
+    })
 }
 
-fn weigh_why(variables: u64, table: &[u64], reading: u64) -> Judged
+fn weigh_why(variables: u64, table: &[u64], reading: u64) -> Result<(), Refusal>
     ensures { result ≡ weigh_why variables table.now reading }
 {
-    let why = table_why(variables, table);
-    let Judged::Fine = why else {
-        return why;
-    };
+    table_why(variables, table)?;
     if !masks::below(reading, variables) {
-        return Judged::Refused(Refusal::BadReading);
+        return Err(Refusal::BadReading);
     }
-    Judged::Fine
+    Ok(())
 }
 
 // The weights of those of the first n rows that the reading doesn't satisfy.

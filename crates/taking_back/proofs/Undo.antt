@@ -1,4 +1,5 @@
 -- What an accepted taking back has shown, in the words of the functions that write it.
+use Rattle.std.specs.Prelude.{Ok}
 use Prim.Native.Nat.{ℕ, ◌+◌, ◌-◌, ◌*◌, ◌≤◌, ◌<◌}
 use mathlib.Core.Path.{◌≡◌, sym, ap, ◌∙◌}
 use mathlib.Core.List.{List}
@@ -14,7 +15,6 @@ use Rattle.masks.specs.Words.{zeroed}
 use Rattle.masks.proofs.Words.{zeroed-before, length-zeroed}
 use Rattle.masks.proofs.Sums.{le-sum}
 use Rattle.masks.proofs.Choice.{or_left, or_right}
-use Rattle.rules.specs.declared.Judged.TheVariants.{Fine}
 use Rattle.rules.specs.Table.{row_words, most_weight}
 use Rattle.rules.specs.Desk.{head_words, in_use, conceded, decided, row_place, desk_words, row_on, weight_on, weight_fits}
 use Rattle.rules.specs.Steps.{most_named, reweighed}
@@ -44,7 +44,7 @@ still-by-two d p q a b p2 p3 q2 q3 h =
     (get_or-set_other (set d p a) q 3 b 0 (λ e. q3 (sym e)) ∙ get_or-set_other d p 3 a 0 (λ e. p3 (sym e)))
     (length-set (set d p a) q b ∙ length-set d p a) h
 
-module _ (d : List ℕ) (fine : take_back_why d ≡ Fine) where
+module _ (d : List ℕ) (fine : take_back_why d ≡ Ok tt) where
   pub taken : Taken d
   taken = take-back-fine d fine
 

@@ -1,6 +1,5 @@
 // A taking back that was judged fine, done: a decision cleared, or a rewriting's rows freed and its named rows' weights regained.
-ghost use Rattle.std.specs.Prelude.{◌≡◌, ◌<◌, set};
-ghost use Rattle.rules.specs.declared.Judged.TheVariants.{Fine};
+ghost use Rattle.std.specs.Prelude.{◌≡◌, ◌<◌, set, Ok};
 ghost use Rattle.rules.specs.TakeBack.{take_back_why, take_back_step, undo_decision, undo_rewriting, withdrawn, last_kind};
 ghost use Rattle.words.specs.Room.{StepStands};
 
@@ -11,7 +10,7 @@ use words::inner::{last_rows, last_word, withdraw, zero_rows};
 
 // Undoes the last standing step.
 pub fn take_back_step(desk: &mut [u64])
-    requires { take_back_why desk.old ≡ Fine }
+    requires { take_back_why desk.old ≡ Ok tt }
     ensures { desk.new ≡ take_back_step desk.old }
 {
     if last_word(desk, Desk::VARIABLES) == 0 {
@@ -23,7 +22,7 @@ pub fn take_back_step(desk: &mut [u64])
 
 // The decision is cleared.
 fn undo_decision(desk: &mut [u64])
-    requires desk_value { take_back_why desk.old ≡ Fine }
+    requires desk_value { take_back_why desk.old ≡ Ok tt }
     requires desk_value_2 { last_kind desk.old ≡ 0 }
     ensures { desk.new ≡ undo_decision desk.old }
 {
@@ -37,7 +36,7 @@ fn undo_decision(desk: &mut [u64])
 
 // The named rows regain w, the new rows are zeroed, conceded loses what the step added.
 fn undo_rewriting(desk: &mut [u64])
-    requires desk_value { take_back_why desk.old ≡ Fine }
+    requires desk_value { take_back_why desk.old ≡ Ok tt }
     requires desk_nonzero { 0 < last_kind desk.old }
     ensures { desk.new ≡ undo_rewriting desk.old }
 {

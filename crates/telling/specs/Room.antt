@@ -1,10 +1,8 @@
 -- The place of a judgement, for which there is to be room above the low byte.
-use Rattle.std.specs.Prelude.{ℕ}
-use Rattle.rules.specs.declared.Judged.{Judged}
-use Rattle.rules.specs.declared.Judged.TheVariants.{Fine, Refused}
-use Rattle.rules.specs.Refusals.{place_of}
+use Rattle.std.specs.Prelude.{ℕ, Ok, Err}
+use Rattle.rules.specs.Refusals.{Judged, place_of}
 
 -- the row or the line; 0 where there is none
 abbrev pub place_in : Judged → ℕ
-place_in Fine = 0
-place_in (Refused r) = place_of r
+place_in (Ok _) = 0
+place_in (Err r) = place_of r

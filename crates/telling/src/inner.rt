@@ -3,16 +3,16 @@ ghost use Rattle.std.specs.Prelude.{◌≡◌, ◌<◌, ◌^◌};
 ghost use Rattle.telling.specs.Told.{told};
 ghost use Rattle.telling.specs.Room.{place_in};
 
-use rules::Judged;
+use rules::Refusal;
 use values::numbered;
 
-pub fn tell(j: Judged) -> u64
+pub fn tell(j: Result<(), Refusal>) -> u64
     requires { place_in j < 2 ^ 32 }
     ensures { result ≡ told j }
 {
     match j {
-        Judged::Fine => 0,
-        Judged::Refused(why) => {
+        Ok(()) => 0,
+        Err(why) => {
             let told = numbered(why);
             told.0 + 256 * told.1
         }

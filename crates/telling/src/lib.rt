@@ -4,7 +4,7 @@
 ghost use Rattle.std.specs.Prelude.{◌≡◌, [], ◌∷◌};
 ghost use Rattle.telling.specs.Told.{told_near, status_word, found_words, hold_word};
 
-use rules::{Best, Found, Judged, Status};
+use rules::{Best, Found, Refusal, Status};
 use values::numbered;
 
 pub mod inner;
@@ -25,8 +25,8 @@ pub fn found_words(f: Found) -> [u64; 5]
     let status = status_word(s);
     let best = f.best;
     match best {
-        Best::Nothing => [status, 0, 0, 0, f.nodes],
-        Best::Reading { weight, reading } => [status, 1, weight, reading, f.nodes],
+        None => [status, 0, 0, 0, f.nodes],
+        Some(Best { weight, reading }) => [status, 1, weight, reading, f.nodes],
     }
 }
 
@@ -34,12 +34,12 @@ pub fn found_words(f: Found) -> [u64; 5]
 const MOST_PLACE: u64 = 72_057_594_037_927_935;
 
 // A judgement as one number, whatever its place.
-pub fn tell_near(j: Judged) -> u64
+pub fn tell_near(j: Result<(), Refusal>) -> u64
     ensures { result ≡ told_near j }
 {
     match j {
-        Judged::Fine => 0,
-        Judged::Refused(why) => {
+        Ok(()) => 0,
+        Err(why) => {
             let told = numbered(why);
             if told.1 < MOST_PLACE {
                 told.0 + 256 * told.1

@@ -1,5 +1,6 @@
 -- What a definition of the reader comes to in each of its cases, over plain variables: a law for each way that reading can go. The code's
 -- returns and the tokens' laws both cite these, and look into no definition themselves.
+use Rattle.std.specs.Prelude.{Option, Some, None, Result, Ok, Err}
 use Prim.Native.Nat.{ℕ, suc, ◌+◌, ◌-◌, ◌*◌, ◌<◌, ◌≤◌}
 use mathlib.Core.Path.{◌≡◌, refl, sym, ap, ◌∙◌}
 use mathlib.Core.Logic.{◌⊎◌, ⊎_elim}
@@ -16,14 +17,8 @@ use Rattle.literals.specs.declared.Lits.{Lits}
 use Rattle.literals.specs.Lits.{no_lits}
 use Rattle.literals.specs.Literal.{most_variables}
 use Rattle.rules.specs.declared.Row.{Row}
-use Rattle.rules.specs.declared.Parsed.{Parsed}
-use Rattle.rules.specs.declared.Signed.{Signed}
-use Rattle.rules.specs.declared.Listed.{Listed}
-use Rattle.rules.specs.declared.RowRead.{RowRead}
-use Rattle.rules.specs.declared.HeadRead.{HeadRead}
-use Rattle.rules.specs.declared.Judged.TheVariants.{Fine}
 use Rattle.rules.specs.Text.{bytes, line_feed, space, minus, digit_zero, most_digits}
-use Rattle.rules.specs.Reader.{first_row_line, row_lines}
+use Rattle.rules.specs.Reader.{first_row_line, row_lines, three_lines}
 use Rattle.rules.specs.Reader.{stands, digit_run, value_of, number_at, number_line, literal_of, literal_at, with_literal, on_literal, lits_from, lits_line}
 use Rattle.rules.specs.Reader.{on_number, row_by, mark_line, row_at, RowsRead, rows, broken_at, in_front, rows_at, head_at, rest_why, words_of}
 use Rattle.rules.specs.Table.{row_words_of, row_words, hard_mark, marked_row}
@@ -48,32 +43,32 @@ pub numeral-most : (n b : ℕ) → numeral n b ≡ true → n ≤ most_digits
 numeral-most n b t = leb-true n most_digits (and_left (leb n most_digits) (spelt n b) (and_right (leb 1 n) (leb n most_digits && spelt n b) t))
 
 pub number_is : (s : List ℕ) (at n b : ℕ) → n ≡ digit_run s at (suc most_digits) → b ≡ get_or s at 0 → numeral n b ≡ true
-    → number_at s at ≡ Parsed.Number (value_of s at n) (at + n)
+    → number_at s at ≡ Some (value_of s at n, at + n)
 unfolding number_at
 number_is s at n b p q t = rw (← p, ← q, t)
 
-pub number-broken : (s : List ℕ) (at n b : ℕ) → n ≡ digit_run s at (suc most_digits) → b ≡ get_or s at 0 → numeral n b ≡ false → number_at s at ≡ Parsed.Broken
+pub number-broken : (s : List ℕ) (at n b : ℕ) → n ≡ digit_run s at (suc most_digits) → b ≡ get_or s at 0 → numeral n b ≡ false → number_at s at ≡ None
 unfolding number_at
 number-broken s at n b p q t = rw (← p, ← q, t)
 
 -- ---- a line of a key and a number
 
 module _ (s : List ℕ) (at : ℕ) (key : List ℕ) where
-  pub line-no-key : stands s at key ≡ false → number_line s at key ≡ Parsed.Broken
+  pub line-no-key : stands s at key ≡ false → number_line s at key ≡ None
   unfolding number_line
   line-no-key e = rw e
 
-  pub line-no-number : stands s at key ≡ true → number_at s (at + length key) ≡ Parsed.Broken → number_line s at key ≡ Parsed.Broken
+  pub line-no-number : stands s at key ≡ true → number_at s (at + length key) ≡ None → number_line s at key ≡ None
   unfolding number_line
   line-no-number e h = rw (e, h)
 
-  pub line-is : (v next : ℕ) → stands s at key ≡ true → number_at s (at + length key) ≡ Parsed.Number v next → get_or s next 0 ≡ line_feed
-      → number_line s at key ≡ Parsed.Number v (next + 1)
+  pub line-is : (v next : ℕ) → stands s at key ≡ true → number_at s (at + length key) ≡ Some (v, next) → get_or s next 0 ≡ line_feed
+      → number_line s at key ≡ Some (v, next + 1)
   unfolding number_line
   line-is v next e h f = rw (e, h, eq-eqb (get_or s next 0) line_feed f)
 
-  pub line-unended : (v next : ℕ) → stands s at key ≡ true → number_at s (at + length key) ≡ Parsed.Number v next → (get_or s next 0 ≡ line_feed → ⊥)
-      → number_line s at key ≡ Parsed.Broken
+  pub line-unended : (v next : ℕ) → stands s at key ≡ true → number_at s (at + length key) ≡ Some (v, next) → (get_or s next 0 ≡ line_feed → ⊥)
+      → number_line s at key ≡ None
   unfolding number_line
   line-unended v next e h f = rw (e, h, ne_eqb (get_or s next 0) line_feed f)
 
@@ -89,31 +84,31 @@ module _ (s : List ℕ) (at last : ℕ) where
   without-minus e = rw (ne_eqb (get_or s at 0) minus e)
 
 -- by the number that was read
-pub literal-broken : (p : Bool) (last : ℕ) (n : Parsed) → n ≡ Parsed.Broken → literal_of p last n ≡ Signed.Broken
+pub literal-broken : (p : Bool) (last : ℕ) (n : Option (ℕ × ℕ)) → n ≡ None → literal_of p last n ≡ None
 literal-broken p last n e = rw e
 
-module _ (p : Bool) (last v next : ℕ) (n : Parsed) (e : n ≡ Parsed.Number v next) where
-  pub literal-in : (ltb last v && leb v most_variables) ≡ true → literal_of p last n ≡ Signed.Literal p v next
+module _ (p : Bool) (last v next : ℕ) (n : Option (ℕ × ℕ)) (e : n ≡ Some (v, next)) where
+  pub literal-in : (ltb last v && leb v most_variables) ≡ true → literal_of p last n ≡ Some (p, v, next)
   literal-in t = rw (e, t)
 
-  pub literal-out : (ltb last v && leb v most_variables) ≡ false → literal_of p last n ≡ Signed.Broken
+  pub literal-out : (ltb last v && leb v most_variables) ≡ false → literal_of p last n ≡ None
   literal-out t = rw (e, t)
 
 -- what a literal that is read is: a number, above the last
 pub record LiteralFound (s : List ℕ) (at last : ℕ) (positive : Bool) (v next : ℕ) : Type 0 where
   pub above : last < v
   pub most : v ≤ most_variables
-  pub number : number_at s (cond positive at (at + 1)) ≡ Parsed.Number v next
+  pub number : number_at s (cond positive at (at + 1)) ≡ Some (v, next)
   pub sign : cond positive (eqb (get_or s at 0) minus ≡ false) (get_or s at 0 ≡ minus)
 
-literal-by : (s : List ℕ) (at last : ℕ) (p : Bool) (positive : Bool) (v next : ℕ) (n : Parsed) → literal_of p last n ≡ Signed.Literal positive v next
-    → (last < v) × (v ≤ most_variables) × (n ≡ Parsed.Number v next) × (p ≡ positive)
-literal-by s at last p positive v next Parsed.Broken e = impossible (cc)
-literal-by s at last p positive v next (Parsed.Number w m) e = ⊎_elim (λ t. good t) (λ f. absurd (bad f)) (cases (ltb last w && leb w most_variables))
+literal-by : (s : List ℕ) (at last : ℕ) (p : Bool) (positive : Bool) (v next : ℕ) (n : Option (ℕ × ℕ)) → literal_of p last n ≡ Some (positive, v, next)
+    → (last < v) × (v ≤ most_variables) × (n ≡ Some (v, next)) × (p ≡ positive)
+literal-by s at last p positive v next None e = impossible (cc)
+literal-by s at last p positive v next (Some (w, m)) e = ⊎_elim (λ t. good t) (λ f. absurd (bad f)) (cases (ltb last w && leb w most_variables))
   where
-    good : (ltb last w && leb w most_variables) ≡ true → (last < v) × (v ≤ most_variables) × (Parsed.Number w m ≡ Parsed.Number v next) × (p ≡ positive)
+    good : (ltb last w && leb w most_variables) ≡ true → (last < v) × (v ≤ most_variables) × (Some (w, m) ≡ Some (v, next)) × (p ≡ positive)
     good t =
-        let q : Signed.Literal p w m ≡ Signed.Literal positive v next = rw t at e in
+        let q : Some (p, w, m) ≡ Some (positive, v, next) = rw t at e in
         let wv : w ≡ v = cc in
         let pp : p ≡ positive = cc in
         let mm : m ≡ next = cc in
@@ -123,10 +118,10 @@ literal-by s at last p positive v next (Parsed.Number w m) e = ⊎_elim (λ t. g
 
     bad : (ltb last w && leb w most_variables) ≡ false → ⊥
     bad t =
-        let q : Signed.Broken ≡ Signed.Literal positive v next = rw t at e in
+        let q : None ≡ Some (positive, v, next) = rw t at e in
         impossible (cc)
 
-pub literal-found : (s : List ℕ) (at last : ℕ) (positive : Bool) (v next : ℕ) → literal_at s at last ≡ Signed.Literal positive v next
+pub literal-found : (s : List ℕ) (at last : ℕ) (positive : Bool) (v next : ℕ) → literal_at s at last ≡ Some (positive, v, next)
     → LiteralFound s at last positive v next
 unfolding literal_at
 literal-found s at last positive v next e = ⊎_elim (λ t. signed t) (λ f. plain f) (cases (eqb (get_or s at 0) minus))
@@ -148,15 +143,15 @@ abbrev pub Parted : List ℕ → ℕ → ℕ → ℕ → Type 0
 Parted s at last from = ((last ≡ 0) × (from ≡ at)) ⊎ ((last ≡ 0 → ⊥) × (get_or s at 0 ≡ space) × (from ≡ at + 1))
 
 module _ (k : ℕ) (s : List ℕ) (at last : ℕ) (l : Lits) where
-  pub lits-none : lits_from 0 s at last l ≡ Listed.Broken
+  pub lits-none : lits_from 0 s at last l ≡ None
   unfolding lits_from
   lits-none = refl
 
-  pub lits-end : get_or s at 0 ≡ line_feed → lits_from (suc k) s at last l ≡ Listed.Literals l (at + 1)
+  pub lits-end : get_or s at 0 ≡ line_feed → lits_from (suc k) s at last l ≡ Some (l, at + 1)
   unfolding lits_from
   lits-end e = rw (eq-eqb (get_or s at 0) line_feed e)
 
-  pub lits-unparted : (get_or s at 0 ≡ line_feed → ⊥) → (last ≡ 0 → ⊥) → (get_or s at 0 ≡ space → ⊥) → lits_from (suc k) s at last l ≡ Listed.Broken
+  pub lits-unparted : (get_or s at 0 ≡ line_feed → ⊥) → (last ≡ 0 → ⊥) → (get_or s at 0 ≡ space → ⊥) → lits_from (suc k) s at last l ≡ None
   unfolding lits_from
   lits-unparted e f g = rw (ne_eqb (get_or s at 0) line_feed e, ne_eqb last 0 f, ne_eqb (get_or s at 0) space g)
 
@@ -169,12 +164,12 @@ module _ (k : ℕ) (s : List ℕ) (at last : ℕ) (l : Lits) where
       (λ w. rw (ne_eqb (get_or s at 0) line_feed e, ne_eqb last 0 w.0, eq-eqb (get_or s at 0) space w.1, w.2))
       p
 
-  pub lits-broken : (from : ℕ) → (get_or s at 0 ≡ line_feed → ⊥) → Parted s at last from → literal_at s from last ≡ Signed.Broken
-      → lits_from (suc k) s at last l ≡ Listed.Broken
+  pub lits-broken : (from : ℕ) → (get_or s at 0 ≡ line_feed → ⊥) → Parted s at last from → literal_at s from last ≡ None
+      → lits_from (suc k) s at last l ≡ None
   lits-broken from e p h = lits-more from e p ∙ rw h
 
   pub lits-next : (from : ℕ) (positive : Bool) (v next : ℕ) → (get_or s at 0 ≡ line_feed → ⊥) → Parted s at last from
-      → literal_at s from last ≡ Signed.Literal positive v next
+      → literal_at s from last ≡ Some (positive, v, next)
       → lits_from (suc k) s at last l ≡ lits_from k s next v (with_literal l positive v)
   lits-next from positive v next e p h = lits-more from e p ∙ rw h
 
@@ -182,67 +177,67 @@ pub line-of-lits : (s : List ℕ) (at : ℕ) → stands s at lits_key ≡ true �
 unfolding lits_line bytes
 line-of-lits s at e = rw e
 
-pub line-no-lits : (s : List ℕ) (at : ℕ) → stands s at lits_key ≡ false → lits_line s at ≡ Listed.Broken
+pub line-no-lits : (s : List ℕ) (at : ℕ) → stands s at lits_key ≡ false → lits_line s at ≡ None
 unfolding lits_line bytes
 line-no-lits s at e = rw e
 
 -- ---- a line of a mark
 
 module _ (s : List ℕ) (at : ℕ) where
-  pub mark-no-line : number_line s at hard_key ≡ Parsed.Broken → mark_line s at ≡ Parsed.Broken
+  pub mark-no-line : number_line s at hard_key ≡ None → mark_line s at ≡ None
   unfolding mark_line bytes
   mark-no-line e = rw e
 
-  pub mark-over : (m next : ℕ) → number_line s at hard_key ≡ Parsed.Number m next → hard_mark < m → mark_line s at ≡ Parsed.Broken
+  pub mark-over : (m next : ℕ) → number_line s at hard_key ≡ Some (m, next) → hard_mark < m → mark_line s at ≡ None
   unfolding mark_line bytes
   mark-over m next e h = rw (e, lt-leb m hard_mark h)
 
-  pub mark-is : (m next : ℕ) → number_line s at hard_key ≡ Parsed.Number m next → m ≤ hard_mark → mark_line s at ≡ Parsed.Number m next
+  pub mark-is : (m next : ℕ) → number_line s at hard_key ≡ Some (m, next) → m ≤ hard_mark → mark_line s at ≡ Some (m, next)
   unfolding mark_line bytes
   mark-is m next e h = rw (e, le-leb m hard_mark h)
 
 -- ---- a row
 
 module _ (s : List ℕ) (at line : ℕ) where
-  pub row-no-weight : number_line s at weight_key ≡ Parsed.Broken → row_at s at line ≡ RowRead.Broken line
+  pub row-no-weight : number_line s at weight_key ≡ None → row_at s at line ≡ Err line
   unfolding row_at bytes
   row-no-weight e = rw e
 
-  pub row-no-mark : (w next : ℕ) → number_line s at weight_key ≡ Parsed.Number w next → mark_line s next ≡ Parsed.Broken
-      → row_at s at line ≡ RowRead.Broken (line + 1)
+  pub row-no-mark : (w next : ℕ) → number_line s at weight_key ≡ Some (w, next) → mark_line s next ≡ None
+      → row_at s at line ≡ Err (line + 1)
   unfolding row_at bytes
   row-no-mark w next e h = rw (e, h)
 
-  module _ (w next m past : ℕ) (e : number_line s at weight_key ≡ Parsed.Number w next) (f : mark_line s next ≡ Parsed.Number m past) where
-    pub row-no-lits : lits_line s past ≡ Listed.Broken → row_at s at line ≡ RowRead.Broken (line + 2)
+  module _ (w next m past : ℕ) (e : number_line s at weight_key ≡ Some (w, next)) (f : mark_line s next ≡ Some (m, past)) where
+    pub row-no-lits : lits_line s past ≡ None → row_at s at line ≡ Err (line + 2)
     unfolding row_at bytes
     row-no-lits h = rw (e, f, h)
 
-    pub row_is : (l : Lits) (end : ℕ) → lits_line s past ≡ Listed.Literals l end → row_at s at line ≡ RowRead.Lines (marked_row l w m) end
+    pub row_is : (l : Lits) (end : ℕ) → lits_line s past ≡ Some (l, end) → row_at s at line ≡ Ok (marked_row l w m, end)
     unfolding row_at bytes
     row_is l end h = rw (e, f, h)
 
 -- the lines of a row that is read have no part in what is read
-same-lits : (a b w m : ℕ) (row : Row) (next : ℕ) (l : Listed) → row_by w m a l ≡ RowRead.Lines row next → row_by w m b l ≡ RowRead.Lines row next
-same-lits a b w m row next (Listed.Literals l end) e = e
-same-lits a b w m row next Listed.Broken e = impossible (cc)
+same-lits : (a b w m : ℕ) (row : Row) (next : ℕ) (l : Option (Lits × ℕ)) → row_by w m a l ≡ Ok (row, next) → row_by w m b l ≡ Ok (row, next)
+same-lits a b w m row next (Some (l, end)) e = e
+same-lits a b w m row next None e = impossible (cc)
 
-same-mark : (s : List ℕ) (a b w : ℕ) (row : Row) (next : ℕ) (n : Parsed)
-    → on_number n (RowRead.Broken (a + 1)) (λ m past. row_by w m (a + 2) (lits_line s past)) ≡ RowRead.Lines row next
-    → on_number n (RowRead.Broken (b + 1)) (λ m past. row_by w m (b + 2) (lits_line s past)) ≡ RowRead.Lines row next
-same-mark s a b w row next (Parsed.Number m past) e = same-lits (a + 2) (b + 2) w m row next (lits_line s past) e
-same-mark s a b w row next Parsed.Broken e = impossible (cc)
+same-mark : (s : List ℕ) (a b w : ℕ) (row : Row) (next : ℕ) (n : Option (ℕ × ℕ))
+    → on_number n (Err (a + 1)) (λ m past. row_by w m (a + 2) (lits_line s past)) ≡ Ok (row, next)
+    → on_number n (Err (b + 1)) (λ m past. row_by w m (b + 2) (lits_line s past)) ≡ Ok (row, next)
+same-mark s a b w row next (Some (m, past)) e = same-lits (a + 2) (b + 2) w m row next (lits_line s past) e
+same-mark s a b w row next None e = impossible (cc)
 
-abbrev marked_from : List ℕ → ℕ → ℕ → ℕ → RowRead
-marked_from s a w past = on_number (mark_line s past) (RowRead.Broken (a + 1)) (λ m past. row_by w m (a + 2) (lits_line s past))
+abbrev marked_from : List ℕ → ℕ → ℕ → ℕ → Result (Row × ℕ) ℕ
+marked_from s a w past = on_number (mark_line s past) (Err (a + 1)) (λ m past. row_by w m (a + 2) (lits_line s past))
 
-same_number : (s : List ℕ) (a b : ℕ) (row : Row) (next : ℕ) (n : Parsed)
-    → on_number n (RowRead.Broken a) (marked_from s a) ≡ RowRead.Lines row next
-    → on_number n (RowRead.Broken b) (marked_from s b) ≡ RowRead.Lines row next
-same_number s a b row next (Parsed.Number w past) e = same-mark s a b w row next (mark_line s past) e
-same_number s a b row next Parsed.Broken e = impossible (cc)
+same_number : (s : List ℕ) (a b : ℕ) (row : Row) (next : ℕ) (n : Option (ℕ × ℕ))
+    → on_number n (Err a) (marked_from s a) ≡ Ok (row, next)
+    → on_number n (Err b) (marked_from s b) ≡ Ok (row, next)
+same_number s a b row next (Some (w, past)) e = same-mark s a b w row next (mark_line s past) e
+same_number s a b row next None e = impossible (cc)
 
-pub row_line : (s : List ℕ) (at a b : ℕ) (row : Row) (next : ℕ) → row_at s at a ≡ RowRead.Lines row next → row_at s at b ≡ RowRead.Lines row next
+pub row_line : (s : List ℕ) (at a b : ℕ) (row : Row) (next : ℕ) → row_at s at a ≡ Ok (row, next) → row_at s at b ≡ Ok (row, next)
 unfolding row_at
 row_line s at a b row next e = same_number s a b row next (number_line s at (bytes "weight=")) e
 
@@ -261,57 +256,57 @@ unfolding rows_at
 rows_none s at line = refl
 
 module _ (s : List ℕ) (k at line : ℕ) where
-  pub rows-broken : (broken : ℕ) → row_at s at line ≡ RowRead.Broken broken → rows_at (suc k) s at line ≡ broken_at broken
+  pub rows-broken : (broken : ℕ) → row_at s at line ≡ Err broken → rows_at (suc k) s at line ≡ broken_at broken
   unfolding rows_at
   rows-broken broken e = rw e
 
-  pub rows_next : (row : Row) (next : ℕ) → row_at s at line ≡ RowRead.Lines row next
+  pub rows_next : (row : Row) (next : ℕ) → row_at s at line ≡ Ok (row, next)
       → rows_at (suc k) s at line ≡ in_front (row_words_of row) (rows_at k s next (line + row_lines))
   unfolding rows_at
   rows_next row next e = rw e
 
-  pub unbroken-next : (row : Row) (next : ℕ) → row_at s at line ≡ RowRead.Lines row next
+  pub unbroken-next : (row : Row) (next : ℕ) → row_at s at line ≡ Ok (row, next)
       → unbroken (rows_at (suc k) s at line) ≡ unbroken (rows_at k s next (line + row_lines))
   unbroken-next row next e = ap unbroken (rows_next row next e) ∙ unbroken-front (row_words_of row) (rows_at k s next (line + row_lines))
 
-  pub words-next : (row : Row) (next : ℕ) → row_at s at line ≡ RowRead.Lines row next → unbroken (rows_at (suc k) s at line) ≡ true
+  pub words-next : (row : Row) (next : ℕ) → row_at s at line ≡ Ok (row, next) → unbroken (rows_at (suc k) s at line) ≡ true
       → words_of (rows_at (suc k) s at line) ≡ row_words_of row ++ words_of (rows_at k s next (line + row_lines))
   words-next row next e h =
       ap words_of (rows_next row next e)
       ∙ words-front (row_words_of row) (rows_at k s next (line + row_lines)) (sym (unbroken-next row next e) ∙ h)
 
   -- a row of unbroken rows is read, whatever line it is said to be on
-  pub unbroken-row : (other broken : ℕ) → unbroken (rows_at (suc k) s at line) ≡ true → row_at s at other ≡ RowRead.Broken broken → ⊥
+  pub unbroken-row : (other broken : ℕ) → unbroken (rows_at (suc k) s at line) ≡ true → row_at s at other ≡ Err broken → ⊥
   unbroken-row other broken e h = go (row_at s at line) refl
     where
-      go : (r : RowRead) → row_at s at line ≡ r → ⊥
-      go (RowRead.Lines row next) p = let q = row_line s at line other row next p in impossible (cc)
-      go (RowRead.Broken b) p = let q = ap unbroken (rows-broken b p) in impossible (cc)
+      go : (r : Result (Row × ℕ) ℕ) → row_at s at line ≡ r → ⊥
+      go (Ok (row, next)) p = let q = row_line s at line other row next p in impossible (cc)
+      go (Err b) p = let q = ap unbroken (rows-broken b p) in impossible (cc)
 
 -- ---- the rows, and what follows them
 
-pub rest-unbroken : (s : List ℕ) (m : ℕ) (r : RowsRead) → rest_why s m r ≡ Fine → unbroken r ≡ true
+pub rest-unbroken : (s : List ℕ) (m : ℕ) (r : RowsRead) → rest_why s m r ≡ Ok tt → unbroken r ≡ true
 rest-unbroken s m (rows words next) e = refl
 rest-unbroken s m (broken_at line) e = impossible (cc)
 
 -- ---- the first three lines
 
 module _ (s : List ℕ) where
-  pub head-no-vars : number_line s 0 vars_key ≡ Parsed.Broken → head_at s ≡ HeadRead.Broken 1
+  pub head-no-vars : number_line s 0 vars_key ≡ None → head_at s ≡ Err 1
   unfolding head_at bytes
   head-no-vars e = rw e
 
-  pub head-no-budget : (n a : ℕ) → number_line s 0 vars_key ≡ Parsed.Number n a → number_line s a budget_key ≡ Parsed.Broken → head_at s ≡ HeadRead.Broken 2
+  pub head-no-budget : (n a : ℕ) → number_line s 0 vars_key ≡ Some (n, a) → number_line s a budget_key ≡ None → head_at s ≡ Err 2
   unfolding head_at bytes
   head-no-budget n a e f = rw (e, f)
 
-  pub head-no-rows : (n a b c : ℕ) → number_line s 0 vars_key ≡ Parsed.Number n a → number_line s a budget_key ≡ Parsed.Number b c
-      → number_line s c rows_key ≡ Parsed.Broken → head_at s ≡ HeadRead.Broken 3
+  pub head-no-rows : (n a b c : ℕ) → number_line s 0 vars_key ≡ Some (n, a) → number_line s a budget_key ≡ Some (b, c)
+      → number_line s c rows_key ≡ None → head_at s ≡ Err 3
   unfolding head_at bytes
   head-no-rows n a b c e f g = rw (e, f, g)
 
-  pub head-is : (n a b c m next : ℕ) → number_line s 0 vars_key ≡ Parsed.Number n a → number_line s a budget_key ≡ Parsed.Number b c
-      → number_line s c rows_key ≡ Parsed.Number m next → head_at s ≡ HeadRead.Lines n b m next
+  pub head-is : (n a b c m next : ℕ) → number_line s 0 vars_key ≡ Some (n, a) → number_line s a budget_key ≡ Some (b, c)
+      → number_line s c rows_key ≡ Some (m, next) → head_at s ≡ Ok (three_lines n b m next)
   unfolding head_at bytes
   head-is n a b c m next e f g = rw (e, f, g)
 
@@ -330,7 +325,7 @@ left-next s m i at = let line : first_row_line + row_lines * i + row_lines ≡ f
 pub left-none : (s : List ℕ) (m i at : ℕ) → m ≤ i → rows_left s m i at ≡ rows [] at
 left-none s m i at h = let none : m - i ≡ 0 = omega arith in rw none (rows_none s at (first_row_line + row_lines * i))
 
-module _ (s : List ℕ) (m i at : ℕ) (row : Row) (next : ℕ) (h : i < m) (e : row_at s at (first_row_line + row_lines * i) ≡ RowRead.Lines row next) where
+module _ (s : List ℕ) (m i at : ℕ) (row : Row) (next : ℕ) (h : i < m) (e : row_at s at (first_row_line + row_lines * i) ≡ Ok (row, next)) where
   pub left-front : rows_left s m i at ≡ in_front (row_words_of row) (rows_left s m (i + 1) next)
   left-front =
       left_one s m i at h

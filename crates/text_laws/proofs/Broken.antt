@@ -1,5 +1,6 @@
 -- The first line that breaks the form is the one that the reader finds. A line that is read is a line of a written text, so what is read so far goes on to
 -- some written text; and a line that is not read is a line of none, for there it would be read.
+use Rattle.std.specs.Prelude.{Option, Some, None, Ok, Err}
 use Prim.Native.Nat.{ℕ, zero, suc, ◌+◌, ◌*◌, ◌^◌, ◌<◌, ◌≤◌}
 use mathlib.Core.Path.{◌≡◌, refl, sym, ap, ap₂, ◌∙◌}
 use mathlib.Core.Bool.{Bool, true, false, not}
@@ -13,16 +14,11 @@ use Rattle.literals.specs.declared.Lits.{Lits}
 use Rattle.literals.specs.Literal.{most_variables}
 use Rattle.literals.specs.Lits.{no_lits}
 use Rattle.rules.specs.declared.Row.{Row}
-use Rattle.rules.specs.declared.Parsed.{Parsed}
-use Rattle.rules.specs.declared.Listed.{Listed}
-use Rattle.rules.specs.declared.RowRead.{RowRead}
 use Rattle.rules.specs.declared.Refusal.TheVariants.{BadText}
-use Rattle.rules.specs.declared.Judged.{Judged}
-use Rattle.rules.specs.declared.Judged.TheVariants.{Fine, Refused}
-use Rattle.rules.specs.Refusals.{refuse}
+use Rattle.rules.specs.Refusals.{Judged, refuse}
 use Rattle.rules.specs.Table.{row_words, hard_mark, marked_row, row_of, row_words_of}
 use Rattle.rules.specs.Text.{line_feed, most_digits, number_text, lits_text, row_text}
-use Rattle.rules.specs.Reader.{row_lines}
+use Rattle.rules.specs.Reader.{row_lines, three_lines}
 use Rattle.rules.specs.Reader.{stands, number_line, mark_line, lits_line, row_at, RowsRead, rows, broken_at, in_front, rows_at}
 use Rattle.text_laws.specs.Pieces.{line_text, list_text}
 use Rattle.text_laws.specs.Keys.{weight_key, hard_key, lits_key}
@@ -57,31 +53,31 @@ lits-bytes-no-feed : (l : Lits) → NoFeed (lits_bytes l)
 lits-bytes-no-feed l = no-feed-append lits_key (lits_text most_variables l) (refl, (refl, (refl, (refl, (refl, tt))))) (lits-no-feed most_variables l)
 
 -- read, it is a line at the place
-pub number_at : (s : List ℕ) (at : ℕ) (key : List ℕ) (v next : ℕ) → number_line s at key ≡ Parsed.Number v next → LineAt s at (number_bytes key v) next
+pub number_at : (s : List ℕ) (at : ℕ) (key : List ℕ) (v next : ℕ) → number_line s at key ≡ Some (v, next) → LineAt s at (number_bytes key v) next
 number_at s at key v next e =
     let f = line-found s at key v next e in
     line-at s at (number_bytes key v) next (rw (number-line key v) at f.stand) (rw (number-line key v) at f.end)
 
-list_at : (s : List ℕ) (at : ℕ) (l : Lits) (next : ℕ) → lits_line s at ≡ Listed.Literals l next → LineAt s at (lits_bytes l) next
+list_at : (s : List ℕ) (at : ℕ) (l : Lits) (next : ℕ) → lits_line s at ≡ Some (l, next) → LineAt s at (lits_bytes l) next
 list_at s at l next e =
     let f = list-found s at l next e in
     line-at s at (lits_bytes l) next (sym (ap (stands s at) (lits-line l)) ∙ f.stand) (f.end ∙ ap (λ (x : List ℕ). at + length x) (lits-line l))
 
 -- a line at the place is read
 pub number_of : (s : List ℕ) (at : ℕ) (key : List ℕ) (v : ℕ) → v < 10 ^ most_digits → first_line (drop at s) ≡ ended (number_bytes key v)
-    → number_line s at key ≡ Parsed.Number v (at + length (line_text key v))
+    → number_line s at key ≡ Some (v, at + length (line_text key v))
 number_of s at key v l e = line_reads s at key v l (rw (number-line key v) (at-line s at (number_bytes key v) e))
 
-mark-at : (s : List ℕ) (at m next : ℕ) → mark_line s at ≡ Parsed.Number m next → LineAt s at (number_bytes hard_key m) next
+mark-at : (s : List ℕ) (at m next : ℕ) → mark_line s at ≡ Some (m, next) → LineAt s at (number_bytes hard_key m) next
 mark-at s at m next e = number_at s at hard_key m next (mark-found s at m next e).line
 
 mark_of : (s : List ℕ) (at : ℕ) (row : Row) → RowHeld row → first_line (drop at s) ≡ ended (number_bytes hard_key row.mark)
-    → mark_line s at ≡ Parsed.Number row.mark (at + length (line_text hard_key row.mark))
+    → mark_line s at ≡ Some (row.mark, at + length (line_text hard_key row.mark))
 mark_of s at row h e =
     mark-reads s at row.mark h.mark (rw (number-line hard_key row.mark) (at-line s at (number_bytes hard_key row.mark) e))
 
 list_of : (s : List ℕ) (at : ℕ) (row : Row) → RowHeld row → first_line (drop at s) ≡ ended (lits_bytes row.lits)
-    → lits_line s at ≡ Listed.Literals row.lits (at + length (list_text row.lits))
+    → lits_line s at ≡ Some (row.lits, at + length (list_text row.lits))
 list_of s at row h e =
     list-reads s at row.lits h.positive h.negative h.apart (rw (lits-line row.lits) (at-line s at (lits_bytes row.lits) e))
 
@@ -179,7 +175,7 @@ front_long : (m : ℕ) (row : Row) (more : List ℕ) → length more ≡ row_wor
 front_long m row more e = length-append (row_words_of row) more ∙ rw (row_words_lem row, e) (omega arith)
 
 module _ (s : List ℕ) (at m : ℕ) where
-  weight-broken : number_line s at weight_key ≡ Parsed.Broken → RestBroken (suc m) (drop at s) 0
+  weight-broken : number_line s at weight_key ≡ None → RestBroken (suc m) (drop at s) 0
   unfolding first_lines rows_from
   weight-broken e =
       record {
@@ -194,11 +190,11 @@ module _ (s : List ℕ) (at m : ℕ) where
             impossible (cc);
       }
 
-  module _ (w mid : ℕ) (read : number_line s at weight_key ≡ Parsed.Number w mid) where
+  module _ (w mid : ℕ) (read : number_line s at weight_key ≡ Some (w, mid)) where
     weight-lines : (k : ℕ) → first_lines (suc k) (drop at s) ≡ ended (number_bytes weight_key w) ∷ first_lines k (drop mid s)
     weight-lines k = lines_at k s at (number_bytes weight_key w) mid (bytes-no-feed weight_key w weight-no-feed) (number_at s at weight_key w mid read)
 
-    mark-broken : mark_line s mid ≡ Parsed.Broken → RestBroken (suc m) (drop at s) 1
+    mark-broken : mark_line s mid ≡ None → RestBroken (suc m) (drop at s) 1
     unfolding first_lines rows_from bare
     mark-broken e =
         record {
@@ -214,7 +210,7 @@ module _ (s : List ℕ) (at m : ℕ) where
               impossible (cc);
         }
 
-    module _ (mark past : ℕ) (said : mark_line s mid ≡ Parsed.Number mark past) where
+    module _ (mark past : ℕ) (said : mark_line s mid ≡ Some (mark, past)) where
       two-lines : (k : ℕ)
           → first_lines (suc (suc k)) (drop at s) ≡ ended (number_bytes weight_key w) ∷ ended (number_bytes hard_key mark) ∷ first_lines k (drop past s)
       two-lines k =
@@ -222,7 +218,7 @@ module _ (s : List ℕ) (at m : ℕ) where
           ∙ ap (λ (x : List Line). ended (number_bytes weight_key w) ∷ x)
           (lines_at k s mid (number_bytes hard_key mark) past (bytes-no-feed hard_key mark mark-no-feed) (mark-at s mid mark past said))
 
-      lits-broken : lits_line s past ≡ Listed.Broken → RestBroken (suc m) (drop at s) 2
+      lits-broken : lits_line s past ≡ None → RestBroken (suc m) (drop at s) 2
       unfolding first_lines rows_from bare
       lits-broken e =
           let row = bare w mark in
@@ -240,7 +236,7 @@ module _ (s : List ℕ) (at m : ℕ) where
                 impossible (cc);
           }
 
-      row-then : (l : Lits) (next : ℕ) → lits_line s past ≡ Listed.Literals l next → (j : ℕ) → RestBroken m (drop next s) j
+      row-then : (l : Lits) (next : ℕ) → lits_line s past ≡ Some (l, next) → (j : ℕ) → RestBroken m (drop next s) j
           → RestBroken (suc m) (drop at s) (suc (suc (suc j)))
       unfolding first_lines rows_from
       row-then l next e j b =
@@ -282,8 +278,8 @@ end-broken s at l h =
 
 -- what is said of the rows and of what follows them, where that has this number
 abbrev pub end_why : List ℕ → ℕ → RowsRead → Judged
-end_why s end (rows words next) = refuse (not (eqb next (length s))) (BadText end) Fine
-end_why s end (broken_at line) = Refused (BadText line)
+end_why s end (rows words next) = refuse (not (eqb next (length s))) (BadText end) (Ok tt)
+end_why s end (broken_at line) = Err (BadText line)
 
 end-front : (s : List ℕ) (end : ℕ) (words : List ℕ) (r : RowsRead) → end_why s end (in_front words r) ≡ end_why s end r
 end-front s end words (rows more next) = refl
@@ -295,15 +291,15 @@ pub record Placed (m : ℕ) (t : List ℕ) (line k : ℕ) : Type 0 where
   pub place : k ≡ line + lines
   pub broken : RestBroken m t lines
 
-same_place : (a k : ℕ) → Refused (BadText a) ≡ Refused (BadText k) → k ≡ a
+same_place : (a k : ℕ) → Err (BadText a) ≡ Err (BadText k) → k ≡ a
 same_place a k e = cc
 
-pub rest-placed : (m : ℕ) (s : List ℕ) (at line k : ℕ) → at ≤ length s → end_why s (line + row_lines * m) (rows_at m s at line) ≡ Refused (BadText k)
+pub rest-placed : (m : ℕ) (s : List ℕ) (at line k : ℕ) → at ≤ length s → end_why s (line + row_lines * m) (rows_at m s at line) ≡ Err (BadText k)
     → Placed m (drop at s) line k
 unfolding rows_at
 rest-placed zero s at line k l e = go (eqb at (length s)) refl e
   where
-    go : (b : Bool) → eqb at (length s) ≡ b → refuse (not b) (BadText (line + row_lines * 0)) Fine ≡ Refused (BadText k) → Placed 0 (drop at s) line k
+    go : (b : Bool) → eqb at (length s) ≡ b → refuse (not b) (BadText (line + row_lines * 0)) (Ok tt) ≡ Err (BadText k) → Placed 0 (drop at s) line k
     go true t q = impossible (cc)
     go false t q =
         record { lines = 0; place = same_place (line + row_lines * 0) k q; broken = end-broken s at l (eqb-false at (length s) t) }
@@ -311,25 +307,25 @@ rest-placed (suc m) s at line k l e = on-weight (number_line s at weight_key) re
   where
     Behind : Type 0
     Behind =
-        (next : ℕ) → next ≤ length s → end_why s (line + row_lines + row_lines * m) (rows_at m s next (line + row_lines)) ≡ Refused (BadText k)
+        (next : ℕ) → next ≤ length s → end_why s (line + row_lines + row_lines * m) (rows_at m s next (line + row_lines)) ≡ Err (BadText k)
         → Placed m (drop next s) (line + row_lines) k
 
-    at_place : (place : ℕ) → row_at s at line ≡ RowRead.Broken place → k ≡ place
+    at_place : (place : ℕ) → row_at s at line ≡ Err place → k ≡ place
     at_place place broken = same_place place k (sym (ap (end_why s (line + row_lines * suc m)) (rows-broken s m at line place broken)) ∙ e)
 
-    on-lits : (w mid mark past : ℕ) → number_line s at weight_key ≡ Parsed.Number w mid → mark_line s mid ≡ Parsed.Number mark past
-        → (r : Listed) → lits_line s past ≡ r → Behind → Placed (suc m) (drop at s) line k
-    on-lits w mid mark past p o Listed.Broken q ih =
+    on-lits : (w mid mark past : ℕ) → number_line s at weight_key ≡ Some (w, mid) → mark_line s mid ≡ Some (mark, past)
+        → (r : Option (Lits × ℕ)) → lits_line s past ≡ r → Behind → Placed (suc m) (drop at s) line k
+    on-lits w mid mark past p o None q ih =
         record {
           lines = 2;
           place = at_place (line + 2) (row-no-lits s at line w mid mark past p o q);
           broken = lits-broken s at m w mid p mark past o q;
         }
-    on-lits w mid mark past p o (Listed.Literals lits next) q ih =
+    on-lits w mid mark past p o (Some (lits, next)) q ih =
         let row = marked_row lits w mark in
         let end : line + row_lines * suc m ≡ line + row_lines + row_lines * m = omega arith in
         let more = rows_next s m at line row next (row_is s at line w mid mark past p o lits next q) in
-        let said : end_why s (line + row_lines + row_lines * m) (rows_at m s next (line + row_lines)) ≡ Refused (BadText k) =
+        let said : end_why s (line + row_lines + row_lines * m) (rows_at m s next (line + row_lines)) ≡ Err (BadText k) =
         sym (ap₂ (end_why s) end more ∙ end-front s (line + row_lines + row_lines * m) (row_words_of row) (rows_at m s next (line + row_lines))) ∙ e in
         let rest = ih next (list_at s past lits next q).inside said in
         record {
@@ -338,12 +334,12 @@ rest-placed (suc m) s at line k l e = on-weight (number_line s at weight_key) re
           broken = row-then s at m w mid p mark past o lits next q rest.lines rest.broken;
         }
 
-    on-mark : (w mid : ℕ) → number_line s at weight_key ≡ Parsed.Number w mid → (r : Parsed) → mark_line s mid ≡ r → Behind → Placed (suc m) (drop at s) line k
-    on-mark w mid p Parsed.Broken q ih =
+    on-mark : (w mid : ℕ) → number_line s at weight_key ≡ Some (w, mid) → (r : Option (ℕ × ℕ)) → mark_line s mid ≡ r → Behind → Placed (suc m) (drop at s) line k
+    on-mark w mid p None q ih =
         record { lines = 1; place = at_place (line + 1) (row-no-mark s at line w mid p q); broken = mark-broken s at m w mid p q }
-    on-mark w mid p (Parsed.Number mark past) q ih = on-lits w mid mark past p q (lits_line s past) refl ih
+    on-mark w mid p (Some (mark, past)) q ih = on-lits w mid mark past p q (lits_line s past) refl ih
 
-    on-weight : (r : Parsed) → number_line s at weight_key ≡ r → Behind → Placed (suc m) (drop at s) line k
-    on-weight Parsed.Broken p ih =
+    on-weight : (r : Option (ℕ × ℕ)) → number_line s at weight_key ≡ r → Behind → Placed (suc m) (drop at s) line k
+    on-weight None p ih =
         record { lines = 0; place = omega (arith, at_place line (row-no-weight s at line p)); broken = weight-broken s at m p }
-    on-weight (Parsed.Number w mid) p ih = on-mark w mid p (mark_line s mid) refl ih
+    on-weight (Some (w, mid)) p ih = on-mark w mid p (mark_line s mid) refl ih

@@ -1,5 +1,6 @@
 -- The converse: a text that is read is the one that the writer writes of what was read. Each line that was read stands there as it is written,
 -- one behind the other from the start, and nothing follows, so the text is no longer than they are. So the form has one spelling.
+use Rattle.std.specs.Prelude.{Result, Ok, Err}
 use Prim.Native.Nat.{ℕ, ◌+◌, ◌*◌}
 use mathlib.Core.Path.{◌≡◌, refl, sym, ap, ◌∙◌}
 use mathlib.Core.Bool.{not}
@@ -10,13 +11,11 @@ use lib.Dec.{eqb}
 use lib.ListN.{length}
 use Rattle.masks.proofs.Choice.{impossible}
 use Rattle.rules.specs.declared.HeadRead.{HeadRead}
-use Rattle.rules.specs.declared.TextRead.{TextRead}
 use Rattle.rules.specs.declared.Refusal.TheVariants.{BadText}
-use Rattle.rules.specs.declared.Judged.{Judged}
-use Rattle.rules.specs.declared.Judged.TheVariants.{Fine, Refused}
+use Rattle.rules.specs.Refusals.{Judged}
 use Rattle.rules.specs.Table.{row_count, row_words}
 use Rattle.rules.specs.Text.{rows_text, table_text}
-use Rattle.rules.specs.Reader.{first_row_line, row_lines}
+use Rattle.rules.specs.Reader.{first_row_line, row_lines, text_says, three_lines}
 use Rattle.rules.specs.Reader.{head_at, RowsRead, rows, broken_at, rows_at, rest_why, head_why, read_why, words_of, read_words, text_read, text_read_as}
 use Rattle.rules.proofs.Judging.{refuse-fine}
 use Rattle.text_laws.proofs.Stands.{stands-whole}
@@ -29,14 +28,14 @@ unfolding row_count
 count_of words m e = omega arith
 
 -- rows that are fine are words, and end where the text does
-pub rest-words : (s : List ℕ) (m : ℕ) (r : RowsRead) → rest_why s m r ≡ Fine → r ≡ rows (words_of r) (length s)
+pub rest-words : (s : List ℕ) (m : ℕ) (r : RowsRead) → rest_why s m r ≡ Ok tt → r ≡ rows (words_of r) (length s)
 rest-words s m (rows words next) e =
-    let t = refuse-fine (not (eqb next (length s))) (BadText (first_row_line + row_lines * m)) Fine e in
+    let t = refuse-fine (not (eqb next (length s))) (BadText (first_row_line + row_lines * m)) (Ok tt) e in
     ap (rows words) (eqb-true next (length s) (not-false (eqb next (length s)) t.0))
 rest-words s m (broken_at b) e = impossible (cc)
 
 -- the text of its head and its rows
-pub head-and-rows : (s : List ℕ) (n b m next : ℕ) (words : List ℕ) → head_at s ≡ HeadRead.Lines n b m next → rows_at m s next first_row_line ≡ rows words (length s)
+pub head-and-rows : (s : List ℕ) (n b m next : ℕ) (words : List ℕ) → head_at s ≡ Ok (three_lines n b m next) → rows_at m s next first_row_line ≡ rows words (length s)
     → s ≡ table_text n b words
 head-and-rows s n b m next words e f =
     let head = head-found s n b m next e in
@@ -47,53 +46,53 @@ head-and-rows s n b m next words e f =
     let long : length (table_text n b words) ≡ length s = ap length text ∙ head-length n b m (rows_text words m) ∙ sym end in
     stands-whole s (table_text n b words) (rw text (head.stand (rows_text words m) body.stand)) long
 
-judged : (most : ℕ) (s : List ℕ) (room n b m next : ℕ) → head_at s ≡ HeadRead.Lines n b m next
-    → (j : Judged) → head_why most s room (HeadRead.Lines n b m next) ≡ j
-    → (v c k : ℕ) → text_read_as j (HeadRead.Lines n b m next) ≡ TextRead.Table v c k → s ≡ table_text v c (read_words s)
+judged : (most : ℕ) (s : List ℕ) (room n b m next : ℕ) → head_at s ≡ Ok (three_lines n b m next)
+    → (j : Judged) → head_why most s room (Ok (three_lines n b m next)) ≡ j
+    → (v c k : ℕ) → text_read_as j (Ok (three_lines n b m next)) ≡ Ok (text_says v c k) → s ≡ table_text v c (read_words s)
 unfolding read_words
-judged most s room n b m next e Fine why v c k h =
+judged most s room n b m next e (Ok _) why v c k h =
     let nv : n ≡ v = cc in
     let bc : b ≡ c = cc in
     let fine = head-fine most s room n b m next why in
     let body = rest-words s m (rows_at m s next first_row_line) fine.rest in
     rw (e, ← nv, ← bc) (head-and-rows s n b m next (words_of (rows_at m s next first_row_line)) e body)
-judged most s room n b m next e (Refused r) why v c k h = impossible (cc)
+judged most s room n b m next e (Err r) why v c k h = impossible (cc)
 
-pub converse : (most : ℕ) (s : List ℕ) (room n b m : ℕ) → text_read most s room ≡ TextRead.Table n b m → s ≡ table_text n b (read_words s)
+pub converse : (most : ℕ) (s : List ℕ) (room n b m : ℕ) → text_read most s room ≡ Ok (text_says n b m) → s ≡ table_text n b (read_words s)
 unfolding text_read read_why
 converse most s room n b m h = go (head_at s) refl
   where
-    go : (x : HeadRead) → head_at s ≡ x → s ≡ table_text n b (read_words s)
-    go (HeadRead.Lines v c k next) e =
-        let h2 : text_read_as (head_why most s room (HeadRead.Lines v c k next)) (HeadRead.Lines v c k next) ≡ TextRead.Table n b m = rw e at h in
-        judged most s room v c k next e (head_why most s room (HeadRead.Lines v c k next)) refl n b m h2
-    go (HeadRead.Broken bad) e =
-        let h2 : TextRead.Refused (BadText bad) ≡ TextRead.Table n b m = rw e at h in
+    go : (x : Result HeadRead ℕ) → head_at s ≡ x → s ≡ table_text n b (read_words s)
+    go (Ok head) e =
+        let h2 : text_read_as (head_why most s room (Ok (three_lines head.variables head.budget head.rows head.next))) (Ok (three_lines head.variables head.budget head.rows head.next)) ≡ Ok (text_says n b m) = rw e at h in
+        judged most s room head.variables head.budget head.rows head.next e (head_why most s room (Ok (three_lines head.variables head.budget head.rows head.next))) refl n b m h2
+    go (Err bad) e =
+        let h2 : Err (BadText bad) ≡ Ok (text_says n b m) = rw e at h in
         impossible (cc)
 
 -- and there are as many words as the rows say
-pub word_count : (most : ℕ) (s : List ℕ) (room n b m : ℕ) → text_read most s room ≡ TextRead.Table n b m → length (read_words s) ≡ row_words * m
+pub word_count : (most : ℕ) (s : List ℕ) (room n b m : ℕ) → text_read most s room ≡ Ok (text_says n b m) → length (read_words s) ≡ row_words * m
 unfolding text_read read_why read_words
 word_count most s room n b m h = go (head_at s) refl
   where
-    counted : (v c k next : ℕ) (j : Judged) → head_why most s room (HeadRead.Lines v c k next) ≡ j
-        → text_read_as j (HeadRead.Lines v c k next) ≡ TextRead.Table n b m
+    counted : (v c k next : ℕ) (j : Judged) → head_why most s room (Ok (three_lines v c k next)) ≡ j
+        → text_read_as j (Ok (three_lines v c k next)) ≡ Ok (text_says n b m)
         → length (words_of (rows_at k s next first_row_line)) ≡ row_words * m
-    counted v c k next Fine why q =
+    counted v c k next (Ok _) why q =
         let km : k ≡ m = cc in
         let body = rest-words s k (rows_at k s next first_row_line) (head-fine most s room v c k next why).rest in
         (rows-found k s next first_row_line (words_of (rows_at k s next first_row_line)) (length s) body).long ∙ ap (λ (x : ℕ). row_words * x) km
-    counted v c k next (Refused r) why q = impossible (cc)
+    counted v c k next (Err r) why q = impossible (cc)
 
-    go : (x : HeadRead) → head_at s ≡ x → length (read_words s) ≡ row_words * m
-    go (HeadRead.Lines v c k next) e =
-        let h2 : text_read_as (head_why most s room (HeadRead.Lines v c k next)) (HeadRead.Lines v c k next) ≡ TextRead.Table n b m = rw e at h in
-        rw e (counted v c k next (head_why most s room (HeadRead.Lines v c k next)) refl h2)
-    go (HeadRead.Broken bad) e =
-        let h2 : TextRead.Refused (BadText bad) ≡ TextRead.Table n b m = rw e at h in
+    go : (x : Result HeadRead ℕ) → head_at s ≡ x → length (read_words s) ≡ row_words * m
+    go (Ok head) e =
+        let h2 : text_read_as (head_why most s room (Ok (three_lines head.variables head.budget head.rows head.next))) (Ok (three_lines head.variables head.budget head.rows head.next)) ≡ Ok (text_says n b m) = rw e at h in
+        rw e (counted head.variables head.budget head.rows head.next (head_why most s room (Ok (three_lines head.variables head.budget head.rows head.next))) refl h2)
+    go (Err bad) e =
+        let h2 : Err (BadText bad) ≡ Ok (text_says n b m) = rw e at h in
         impossible (cc)
 
 -- so no two texts are read as the same variables, budget and words
-pub one-spelling : (most : ℕ) (s t : List ℕ) (room other n b m : ℕ) → text_read most s room ≡ TextRead.Table n b m → text_read most t other ≡ TextRead.Table n b m
+pub one-spelling : (most : ℕ) (s t : List ℕ) (room other n b m : ℕ) → text_read most s room ≡ Ok (text_says n b m) → text_read most t other ≡ Ok (text_says n b m)
     → read_words s ≡ read_words t → s ≡ t
 one-spelling most s t room other n b m p q e = converse most s room n b m p ∙ ap (table_text n b) e ∙ sym (converse most t other n b m q)

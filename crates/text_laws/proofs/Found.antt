@@ -1,4 +1,5 @@
 -- What a text that is read says of its figures and its words.
+use Rattle.std.specs.Prelude.{Result, Ok, Err}
 use Prim.Native.Nat.{ℕ, ◌*◌, ◌≤◌}
 use mathlib.Core.Path.{◌≡◌, refl}
 use mathlib.Core.List.{List, ◌++◌}
@@ -8,31 +9,29 @@ use lib.Seq.{take_at}
 use Rattle.masks.proofs.Choice.{impossible}
 use Rattle.literals.specs.Literal.{most_variables}
 use Rattle.rules.specs.declared.Refusal.TheVariants.{BadText}
-use Rattle.rules.specs.declared.Judged.{Judged}
-use Rattle.rules.specs.declared.Judged.TheVariants.{Fine, Refused}
+use Rattle.rules.specs.Refusals.{Judged}
 use Rattle.rules.specs.declared.HeadRead.{HeadRead}
-use Rattle.rules.specs.declared.TextRead.{TextRead}
 use Rattle.rules.specs.Table.{row_words}
 use Rattle.rules.specs.Walk.{most_budget}
-use Rattle.rules.specs.Reader.{head_at, head_why, read_why, read_words, read_step, text_read_as, text_read, read_table}
+use Rattle.rules.specs.Reader.{head_at, head_why, read_why, read_words, read_step, text_read_as, text_read, read_table, text_says, three_lines}
 use Rattle.rules.proofs.Judging.{words-fine}
 use Rattle.text_laws.proofs.Reading.{head-fine}
 use Rattle.text_laws.proofs.Converse.{word_count}
 
 pub record ReadFine (most : ℕ) (s : List ℕ) (room n b m : ℕ) : Type 0 where
-  pub fine : read_why most s room ≡ Fine
+  pub fine : read_why most s room ≡ Ok tt
   pub variables : n ≤ most_variables
   pub budget : b ≤ most_budget
   pub few : m ≤ most
 
-pub read-fine : (most : ℕ) (s : List ℕ) (room n b m : ℕ) → text_read most s room ≡ TextRead.Table n b m → ReadFine most s room n b m
+pub read-fine : (most : ℕ) (s : List ℕ) (room n b m : ℕ) → text_read most s room ≡ Ok (text_says n b m) → ReadFine most s room n b m
 unfolding text_read read_why
 read-fine most s room n b m h = go (head_at s) refl
   where
-    judged : (v c k next : ℕ) (j : Judged) → head_why most s room (HeadRead.Lines v c k next) ≡ j
-        → text_read_as j (HeadRead.Lines v c k next) ≡ TextRead.Table n b m
-        → head_at s ≡ HeadRead.Lines v c k next → ReadFine most s room n b m
-    judged v c k next Fine why q e =
+    judged : (v c k next : ℕ) (j : Judged) → head_why most s room (Ok (three_lines v c k next)) ≡ j
+        → text_read_as j (Ok (three_lines v c k next)) ≡ Ok (text_says n b m)
+        → head_at s ≡ Ok (three_lines v c k next) → ReadFine most s room n b m
+    judged v c k next (Ok _) why q e =
         let vn : v ≡ n = cc in
         let cb : c ≡ b = cc in
         let km : k ≡ m = cc in
@@ -43,18 +42,18 @@ read-fine most s room n b m h = go (head_at s) refl
           budget = omega (arith, f.budget);
           few = omega (arith, f.few);
         }
-    judged v c k next (Refused r) why q e = impossible (cc)
+    judged v c k next (Err r) why q e = impossible (cc)
 
-    go : (x : HeadRead) → head_at s ≡ x → ReadFine most s room n b m
-    go (HeadRead.Lines v c k next) e =
-        let h2 : text_read_as (head_why most s room (HeadRead.Lines v c k next)) (HeadRead.Lines v c k next) ≡ TextRead.Table n b m = rw e at h in
-        judged v c k next (head_why most s room (HeadRead.Lines v c k next)) refl h2 e
-    go (HeadRead.Broken bad) e =
-        let h2 : TextRead.Refused (BadText bad) ≡ TextRead.Table n b m = rw e at h in
+    go : (x : Result HeadRead ℕ) → head_at s ≡ x → ReadFine most s room n b m
+    go (Ok head) e =
+        let h2 : text_read_as (head_why most s room (Ok (three_lines head.variables head.budget head.rows head.next))) (Ok (three_lines head.variables head.budget head.rows head.next)) ≡ Ok (text_says n b m) = rw e at h in
+        judged head.variables head.budget head.rows head.next (head_why most s room (Ok (three_lines head.variables head.budget head.rows head.next))) refl h2 e
+    go (Err bad) e =
+        let h2 : Err (BadText bad) ≡ Ok (text_says n b m) = rw e at h in
         impossible (cc)
 
 -- the words of the rows stand at the front of the table
-pub front-words : (most : ℕ) (s table : List ℕ) (n b m : ℕ) → text_read most s (length table) ≡ TextRead.Table n b m
+pub front-words : (most : ℕ) (s table : List ℕ) (n b m : ℕ) → text_read most s (length table) ≡ Ok (text_says n b m)
     → take (row_words * m) (read_table most s table) ≡ read_words s
 unfolding read_table read_step
 front-words most s table n b m h =

@@ -1,5 +1,6 @@
 -- A line of a key and a number: what is written is read as it, and what is read is written so. The end of line is no digit, so that a
 -- number in a line ends where it should.
+use Rattle.std.specs.Prelude.{Option, Some, None}
 use Prim.Native.Nat.{ℕ, ◌+◌, ◌<◌, ◌^◌}
 use mathlib.Core.Path.{◌≡◌, refl}
 use mathlib.Core.Logic.{⊎_elim}
@@ -10,7 +11,6 @@ use borrow.Author.Tests.{eqb-true, eqb-false}
 use lib.Dec.{eqb}
 use lib.ListN.{length, get_or, length-append}
 use Rattle.masks.proofs.Choice.{cases, impossible}
-use Rattle.rules.specs.declared.Parsed.{Parsed}
 use Rattle.rules.specs.Text.{number_text, line_feed, most_digits}
 use Rattle.rules.specs.Reader.{stands, is_digit, number_at, number_line}
 use Rattle.text_laws.specs.Pieces.{line_text}
@@ -27,7 +27,7 @@ line-end : (key : List ℕ) (v at : ℕ) → at + length (key ++ (number_text v 
 line-end key v at = rw (length-append key (number_text v ++ (line_feed ∷ [])), length-append (number_text v) (line_feed ∷ [])) (omega arith)
 
 pub line_reads : (s : List ℕ) (at : ℕ) (key : List ℕ) (v : ℕ) → v < 10 ^ most_digits → stands s at (line_text key v) ≡ true
-    → number_line s at key ≡ Parsed.Number v (at + length (line_text key v))
+    → number_line s at key ≡ Some (v, at + length (line_text key v))
 unfolding line_text
 line_reads s at key v l e =
     let rest = number_text v ++ (line_feed ∷ []) in
@@ -43,7 +43,7 @@ pub record LineFound (s : List ℕ) (at : ℕ) (key : List ℕ) (v next : ℕ) :
   pub end : next ≡ at + length (line_text key v)
   pub small : v < 10 ^ most_digits
 
-found-line : (s : List ℕ) (at : ℕ) (key : List ℕ) (v m : ℕ) → stands s at key ≡ true → number_at s (at + length key) ≡ Parsed.Number v m → get_or s m 0 ≡ line_feed
+found-line : (s : List ℕ) (at : ℕ) (key : List ℕ) (v m : ℕ) → stands s at key ≡ true → number_at s (at + length key) ≡ Some (v, m) → get_or s m 0 ≡ line_feed
     → LineFound s at key v (m + 1)
 unfolding line_text
 found-line s at key v m k e f =
@@ -57,19 +57,19 @@ found-line s at key v m k e f =
       small = n.small;
     }
 
-pub line-found : (s : List ℕ) (at : ℕ) (key : List ℕ) (v next : ℕ) → number_line s at key ≡ Parsed.Number v next → LineFound s at key v next
+pub line-found : (s : List ℕ) (at : ℕ) (key : List ℕ) (v next : ℕ) → number_line s at key ≡ Some (v, next) → LineFound s at key v next
 line-found s at key v next e =
     ⊎_elim
     (λ k. keyed k (number_at s (at + length key)) refl)
     (λ k. absurd (never (line-no-key s at key k)))
     (cases (stands s at key))
   where
-    never : number_line s at key ≡ Parsed.Broken → ⊥
+    never : number_line s at key ≡ None → ⊥
     never h = impossible (cc)
 
-    keyed : stands s at key ≡ true → (p : Parsed) → number_at s (at + length key) ≡ p → LineFound s at key v next
-    keyed k Parsed.Broken q = absurd (never (line-no-number s at key k q))
-    keyed k (Parsed.Number w m) q =
+    keyed : stands s at key ≡ true → (p : Option (ℕ × ℕ)) → number_at s (at + length key) ≡ p → LineFound s at key v next
+    keyed k None q = absurd (never (line-no-number s at key k q))
+    keyed k (Some (w, m)) q =
         ⊎_elim
         (λ t.
         let f = eqb-true (get_or s m 0) line_feed t in

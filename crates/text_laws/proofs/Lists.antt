@@ -1,5 +1,6 @@
 -- A line of literals. Written, it grows by a literal for each variable in turn, and reading what stands so far comes to reading what is left
 -- behind it. Read, it is the text of the literals so far at each turn, since no variable up to the last is met again.
+use Rattle.std.specs.Prelude.{Some}
 use Prim.Native.Nat.{ℕ, zero, suc, ◌+◌, ◌-◌, ◌^◌, ◌<◌, ◌≤◌}
 use mathlib.Core.Path.{◌≡◌, refl, sym, ap, ap₂, ◌∙◌}
 use mathlib.Core.Logic.{◌⊎◌, inl, inr, ⊎_elim}
@@ -18,8 +19,6 @@ use Rattle.masks.proofs.Sets.{apart}
 use Rattle.literals.specs.declared.Lits.{Lits}
 use Rattle.literals.specs.Lits.{no_lits}
 use Rattle.literals.specs.Literal.{most_variables}
-use Rattle.rules.specs.declared.Signed.{Signed}
-use Rattle.rules.specs.declared.Listed.{Listed}
 use Rattle.rules.specs.Text.{number_text, behind, lits_text, line_feed, space, minus, most_digits}
 use Rattle.rules.specs.Reader.{stands, is_digit, number_at, literal_at, with_literal, lits_from}
 use Rattle.text_laws.proofs.Stands.{stands-none, first-stands, second-stands, front-byte, behind-byte}
@@ -38,7 +37,7 @@ picked last v l m = rw (lt-ltb last v l, le-leb v most_variables m)
 
 pub literal-reads : (s : List ℕ) (at last : ℕ) (p : Bool) (v : ℕ) → last < v → v ≤ most_variables → stands s at (literal_text p v) ≡ true
     → is_digit (get_or s (at + length (literal_text p v)) 0) ≡ false
-    → literal_at s at last ≡ Signed.Literal p v (at + length (literal_text p v))
+    → literal_at s at last ≡ Some (p, v, at + length (literal_text p v))
 unfolding literal_text
 literal-reads s at last true v l m e f =
     let d = digit_low (get_or s at 0) (number-digit s at v (omega arith) e) in
@@ -302,7 +301,7 @@ cut-is l p n e =
 
 pub lits-read : (s : List ℕ) (at : ℕ) (l : Lits) → l.positive < 2 ^ most_variables → l.negative < 2 ^ most_variables → bit_and l.positive l.negative ≡ 0
     → stands s at (lits_text most_variables l ++ (line_feed ∷ [])) ≡ true
-    → lits_from (suc most_variables) s at 0 no_lits ≡ Listed.Literals l (at + length (lits_text most_variables l ++ (line_feed ∷ [])))
+    → lits_from (suc most_variables) s at 0 no_lits ≡ Some (l, at + length (lits_text most_variables l ++ (line_feed ∷ [])))
 lits-read s at l p n a e =
     let text = lits_text most_variables l in
     let place = at + length text in

@@ -1,5 +1,6 @@
 -- A line of literals that is read is written so. At each turn the literals so far are written up to the place, and reach no further than the
 -- last variable; the next one is above it, so that it comes behind what is written and changes nothing of it.
+use Rattle.std.specs.Prelude.{Option, Some, None}
 use Prim.Native.Nat.{ℕ, zero, suc, ◌+◌, ◌-◌, ◌^◌, ◌<◌, ◌≤◌}
 use mathlib.Core.Path.{◌≡◌, refl, sym, ap, subst, ◌∙◌}
 use mathlib.Core.Logic.{inl, inr, ⊎_elim}
@@ -18,8 +19,6 @@ use Rattle.masks.proofs.Sets.{apart, apart_of}
 use Rattle.literals.specs.declared.Lits.{Lits}
 use Rattle.literals.specs.Lits.{no_lits}
 use Rattle.literals.specs.Literal.{most_variables}
-use Rattle.rules.specs.declared.Signed.{Signed}
-use Rattle.rules.specs.declared.Listed.{Listed}
 use Rattle.rules.specs.Text.{number_text, behind, lits_text, line_feed, space, minus}
 use Rattle.rules.specs.Reader.{stands, literal_at, with_literal, lits_from}
 use Rattle.text_laws.proofs.Stands.{stands-none, both-stand, byte-stands, cons-stands}
@@ -211,26 +210,26 @@ found-end s from at last l so e =
 
 -- a turn that is not the line's end: the literal that it read, and what is found behind it
 found_turn : (k : ℕ) (s : List ℕ) (from at last : ℕ) (l found : Lits) (next q : ℕ) → SoFar s from at last l → (get_or s at 0 ≡ line_feed → ⊥) → Parted s at last q
-    → lits_from (suc k) s at last l ≡ Listed.Literals found next
-    → ((place v : ℕ) (more : Lits) → SoFar s from place v more → lits_from k s place v more ≡ Listed.Literals found next → ListFound s from found next)
+    → lits_from (suc k) s at last l ≡ Some (found, next)
+    → ((place v : ℕ) (more : Lits) → SoFar s from place v more → lits_from k s place v more ≡ Some (found, next) → ListFound s from found next)
     → ListFound s from found next
 found_turn k s from at last l found next q so e parts h ih = go (literal_at s q last) refl
   where
-    go : (r : Signed) → literal_at s q last ≡ r → ListFound s from found next
-    go Signed.Broken z =
+    go : (r : Option (Bool × ℕ × ℕ)) → literal_at s q last ≡ r → ListFound s from found next
+    go None z =
         let b = lits-broken k s at last l q e parts z in
         impossible (cc)
-    go (Signed.Literal p v place) z =
+    go (Some (p, v, place)) z =
         let so_far = so-next s from at last l so q p v place (literal-found s q last p v place z) parts in
         ih place v (with_literal l p v) so_far (sym (lits-next k s at last l q p v place e parts z) ∙ h)
 
-lits-found : (k : ℕ) (s : List ℕ) (from at last : ℕ) (l found : Lits) (next : ℕ) → SoFar s from at last l → lits_from k s at last l ≡ Listed.Literals found next
+lits-found : (k : ℕ) (s : List ℕ) (from at last : ℕ) (l found : Lits) (next : ℕ) → SoFar s from at last l → lits_from k s at last l ≡ Some (found, next)
     → ListFound s from found next
 lits-found zero s from at last l found next so h =
     let b = lits-none 0 s at last l in
     impossible (cc)
 lits-found (suc k) s from at last l found next so h =
-    let ih : (place v : ℕ) (more : Lits) → SoFar s from place v more → lits_from k s place v more ≡ Listed.Literals found next → ListFound s from found next =
+    let ih : (place v : ℕ) (more : Lits) → SoFar s from place v more → lits_from k s place v more ≡ Some (found, next) → ListFound s from found next =
     λ place v more. lits-found k s from place v more found next in
     ⊎_elim
     (λ (t : eqb (get_or s at 0) line_feed ≡ true).
@@ -267,5 +266,5 @@ so-start s from =
       start = inl (refl, refl);
     }
 
-pub lits-spelt : (s : List ℕ) (from : ℕ) (l : Lits) (next : ℕ) → lits_from (suc most_variables) s from 0 no_lits ≡ Listed.Literals l next → ListFound s from l next
+pub lits-spelt : (s : List ℕ) (from : ℕ) (l : Lits) (next : ℕ) → lits_from (suc most_variables) s from 0 no_lits ≡ Some (l, next) → ListFound s from l next
 lits-spelt s from l next e = lits-found (suc most_variables) s from from 0 no_lits l next (so-start s from) e

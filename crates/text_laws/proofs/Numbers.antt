@@ -1,5 +1,6 @@
 -- A number in a text. Its digits, last one last, make the value; the value's digits are those, since the first of several is not 0. So what
 -- is written of a number below 10 ^ most_digits is read as it where no digit follows, and a number that is read stands there as it is written.
+use Rattle.std.specs.Prelude.{Some, None}
 use Prim.Native.Nat.{ℕ, zero, suc, ◌+◌, ◌-◌, ◌*◌, ◌/◌, ◌%◌, ◌^◌, ◌<◌, ◌≤◌}
 use mathlib.Core.Path.{◌≡◌, refl, ap, ◌∙◌}
 use mathlib.Core.Logic.{◌⊎◌, inl, inr, ⊎_elim}
@@ -12,7 +13,6 @@ use borrow.Author.Tests.{eq-eqb, ne_eqb, eqb-true, eqb-false, ltb-true, lt-ltb, 
 use lib.Dec.{eqb, leb, ltb}
 use lib.ListN.{length, get_or, length-append}
 use Rattle.masks.proofs.Choice.{cases, and_left, and_right, both, or_cases, lt-or-le, impossible}
-use Rattle.rules.specs.declared.Parsed.{Parsed}
 use Rattle.rules.specs.Text.{digit_zero, most_digits, digits, number_text}
 use Rattle.rules.specs.Reader.{stands, is_digit, digit_run, value_of, number_at}
 use Rattle.text_laws.proofs.Stands.{inside, first-stands, second-stands, both-stand, byte-stands, front-byte}
@@ -251,7 +251,7 @@ no_zero s at v n one lead =
 
 pub number-reads : (s : List ℕ) (at v : ℕ) → v < 10 ^ most_digits → stands s at (number_text v) ≡ true
     → is_digit (get_or s (at + length (number_text v)) 0) ≡ false
-    → number_at s at ≡ Parsed.Number v (at + length (number_text v))
+    → number_at s at ≡ Some (v, at + length (number_text v))
 unfolding number_text number_at
 number-reads s at v l e f =
     let n = length (digits most_digits v) in
@@ -294,20 +294,20 @@ found-by s at (suc n) r e =
     le-ne : (s : List ℕ) (at : ℕ) → digit_zero ≤ get_or s at 0 → (get_or s at 0 ≡ digit_zero → ⊥) → digit_zero < get_or s at 0
     le-ne s at l h = ⊎_elim (λ x. x) (λ x. absurd (h (omega arith))) (lt-or-le digit_zero (get_or s at 0))
 
-pub number-found : (s : List ℕ) (at v next : ℕ) → number_at s at ≡ Parsed.Number v next → NumberFound s at v next
+pub number-found : (s : List ℕ) (at v next : ℕ) → number_at s at ≡ Some (v, next) → NumberFound s at v next
 unfolding number_at numeral
 number-found s at v next e = ⊎_elim (λ t. good t) (λ f. absurd (bad f)) (cases (numeral s at (digit_run s at (suc most_digits))))
   where
     good : numeral s at (digit_run s at (suc most_digits)) ≡ true → NumberFound s at v next
     good t =
-        let q : Parsed.Number (value_of s at (digit_run s at (suc most_digits))) (at + digit_run s at (suc most_digits)) ≡ Parsed.Number v next = rw t at e in
+        let q : Some (value_of s at (digit_run s at (suc most_digits)), at + digit_run s at (suc most_digits)) ≡ Some (v, next) = rw t at e in
         let qv : value_of s at (digit_run s at (suc most_digits)) ≡ v = cc in
         let qn : at + digit_run s at (suc most_digits) ≡ next = cc in
         rw (← qv, ← qn) (found-by s at (digit_run s at (suc most_digits)) refl t)
 
     bad : numeral s at (digit_run s at (suc most_digits)) ≡ false → ⊥
     bad f =
-        let q : Parsed.Broken ≡ Parsed.Number v next = rw f at e in
+        let q : None ≡ Some (v, next) = rw f at e in
         impossible (cc)
 
 -- ---- digits as the writer meets them

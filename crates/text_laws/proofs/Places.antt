@@ -1,5 +1,6 @@
 -- The place that the reader gives is the first line that breaks the form, and the figures of the first three lines are the same in every written text that
 -- has these lines. The three lines here, the rest in Broken.antt.
+use Rattle.std.specs.Prelude.{Option, Some, None, Result, Ok, Err}
 use Prim.Native.Nat.{ℕ, zero, suc, ◌+◌, ◌*◌, ◌^◌, ◌<◌, ◌≤◌}
 use mathlib.Core.Path.{◌≡◌, refl, sym, ap, ◌∙◌, subst}
 use mathlib.Core.Logic.{⊎_elim}
@@ -9,10 +10,8 @@ use native.Mathlib.Omega.{arith}
 use borrow.Author.Tests.{ne_eqb}
 use lib.ListN.{length, drop, length-append}
 use Rattle.masks.proofs.Choice.{impossible, lt-or-le}
-use Rattle.rules.specs.declared.Parsed.{Parsed}
 use Rattle.rules.specs.declared.HeadRead.{HeadRead}
 use Rattle.rules.specs.declared.Refusal.TheVariants.{BadText}
-use Rattle.rules.specs.declared.Judged.TheVariants.{Fine, Refused}
 use Rattle.rules.specs.Table.{row_words, row_count, row_of}
 use Rattle.rules.specs.Text.{most_digits, rows_text, table_text}
 use Rattle.rules.specs.Reader.{first_row_line, row_lines}
@@ -87,7 +86,7 @@ first-broken s k f h =
 
 -- ---- what is read
 
-pub vars-broken : (s : List ℕ) → number_line s 0 vars_key ≡ Parsed.Broken → FirstBroken s 1
+pub vars-broken : (s : List ℕ) → number_line s 0 vars_key ≡ None → FirstBroken s 1
 unfolding first_lines
 vars-broken s e =
     first-broken s 0 (record { variables = 0; budget = 0; table = []; held = none-held 0 0 (omega arith) (omega arith); alike = refl })
@@ -98,14 +97,14 @@ vars-broken s e =
     let read = number_of s 0 vars_key f.variables f.held.variables-digits line in
     impossible (cc))
 
-module _ (s : List ℕ) (n a : ℕ) (p : number_line s 0 vars_key ≡ Parsed.Number n a) where
+module _ (s : List ℕ) (n a : ℕ) (p : number_line s 0 vars_key ≡ Some (n, a)) where
   first-lines : (k : ℕ) → first_lines (suc k) s ≡ ended (number_bytes vars_key n) ∷ first_lines k (drop a s)
   first-lines k = lines_at k s 0 (number_bytes vars_key n) a (bytes-no-feed vars_key n vars-no-feed) (number_at s 0 vars_key n a p)
 
   small_n : n < 10 ^ most_digits
   small_n = (line-found s 0 vars_key n a p).small
 
-  pub budget-broken : number_line s a budget_key ≡ Parsed.Broken → FirstBroken s 2
+  pub budget-broken : number_line s a budget_key ≡ None → FirstBroken s 2
   unfolding first_lines
   budget-broken e =
       first-broken s 1
@@ -118,7 +117,7 @@ module _ (s : List ℕ) (n a : ℕ) (p : number_line s 0 vars_key ≡ Parsed.Num
       let read = number_of s a budget_key f.budget f.held.budget-digits line in
       impossible (cc))
 
-  module _ (b c : ℕ) (q : number_line s a budget_key ≡ Parsed.Number b c) where
+  module _ (b c : ℕ) (q : number_line s a budget_key ≡ Some (b, c)) where
     second-lines : (k : ℕ) → first_lines (suc (suc k)) s ≡ ended (number_bytes vars_key n) ∷ ended (number_bytes budget_key b) ∷ first_lines k (drop c s)
     second-lines k =
         first-lines (suc k)
@@ -128,7 +127,7 @@ module _ (s : List ℕ) (n a : ℕ) (p : number_line s 0 vars_key ≡ Parsed.Num
     small_b : b < 10 ^ most_digits
     small_b = (line-found s a budget_key b c q).small
 
-    pub rows-broken : number_line s c rows_key ≡ Parsed.Broken → FirstBroken s 3
+    pub rows-broken : number_line s c rows_key ≡ None → FirstBroken s 3
     unfolding first_lines
     rows-broken e =
         first-broken s 2
@@ -141,7 +140,7 @@ module _ (s : List ℕ) (n a : ℕ) (p : number_line s 0 vars_key ≡ Parsed.Num
         let read = number_of s c rows_key (row_count f.table) f.held.rows-digits line in
         impossible (cc))
 
-    module _ (m next : ℕ) (r : number_line s c rows_key ≡ Parsed.Number m next) where
+    module _ (m next : ℕ) (r : number_line s c rows_key ≡ Some (m, next)) where
       third-lines : (k : ℕ) → first_lines (suc (suc (suc k))) s
           ≡ ended (number_bytes vars_key n) ∷ ended (number_bytes budget_key b) ∷ ended (number_bytes rows_key m) ∷ first_lines k (drop next s)
       third-lines k =
@@ -216,16 +215,16 @@ module _ (s : List ℕ) (n a : ℕ) (p : number_line s 0 vars_key ≡ Parsed.Num
 pub record HeadLines (s : List ℕ) (n b m next : ℕ) : Type 0 where
   pub form : InForm s 3
   pub same : (f : InForm s 3) → (f.variables ≡ n) × (f.budget ≡ b) × (row_count f.table ≡ m)
-  pub faulted : (k : ℕ) → rest_why s m (rows_at m s next first_row_line) ≡ Refused (BadText k) → FirstBroken s k × (3 < k)
-  pub held : rest_why s m (rows_at m s next first_row_line) ≡ Fine → Held n b (words_of (rows_at m s next first_row_line))
-  pub count : rest_why s m (rows_at m s next first_row_line) ≡ Fine → row_count (words_of (rows_at m s next first_row_line)) ≡ m
+  pub faulted : (k : ℕ) → rest_why s m (rows_at m s next first_row_line) ≡ Err (BadText k) → FirstBroken s k × (3 < k)
+  pub held : rest_why s m (rows_at m s next first_row_line) ≡ Ok tt → Held n b (words_of (rows_at m s next first_row_line))
+  pub count : rest_why s m (rows_at m s next first_row_line) ≡ Ok tt → row_count (words_of (rows_at m s next first_row_line)) ≡ m
 
 end_is : (s : List ℕ) (m : ℕ) (r : RowsRead) → end_why s (first_row_line + row_lines * m) r ≡ rest_why s m r
 end_is s m (rows words next) = refl
 end_is s m (broken_at line) = refl
 
-three-lines : (s : List ℕ) (n a b c m next : ℕ) → number_line s 0 vars_key ≡ Parsed.Number n a → number_line s a budget_key ≡ Parsed.Number b c
-    → number_line s c rows_key ≡ Parsed.Number m next → HeadLines s n b m next
+three-lines : (s : List ℕ) (n a b c m next : ℕ) → number_line s 0 vars_key ≡ Some (n, a) → number_line s a budget_key ≡ Some (b, c)
+    → number_line s c rows_key ≡ Some (m, next) → HeadLines s n b m next
 unfolding first_lines
 three-lines s n a b c m next p q r =
     record {
@@ -251,27 +250,27 @@ three-lines s n a b c m next p q r =
     }
 
 -- what the reader's head says of the lines
-abbrev pub HeadSays : List ℕ → HeadRead → Type 0
-HeadSays s (HeadRead.Lines n b m next) = HeadLines s n b m next
-HeadSays s (HeadRead.Broken k) = FirstBroken s k × (k ≤ 3)
+abbrev pub HeadSays : List ℕ → Result HeadRead ℕ → Type 0
+HeadSays s (Ok head) = HeadLines s head.variables head.budget head.rows head.next
+HeadSays s (Err k) = FirstBroken s k × (k ≤ 3)
 
 pub head-says : (s : List ℕ) → HeadSays s (head_at s)
 head-says s = first (number_line s 0 vars_key) refl
   where
-    third : (n a b c : ℕ) → number_line s 0 vars_key ≡ Parsed.Number n a → number_line s a budget_key ≡ Parsed.Number b c
-        → (r : Parsed) → number_line s c rows_key ≡ r → HeadSays s (head_at s)
-    third n a b c p q Parsed.Broken r =
+    third : (n a b c : ℕ) → number_line s 0 vars_key ≡ Some (n, a) → number_line s a budget_key ≡ Some (b, c)
+        → (r : Option (ℕ × ℕ)) → number_line s c rows_key ≡ r → HeadSays s (head_at s)
+    third n a b c p q None r =
         subst (HeadSays s) (sym (head-no-rows s n a b c p q r)) (rows-broken s n a p b c q r, omega arith)
-    third n a b c p q (Parsed.Number m next) r =
+    third n a b c p q (Some (m, next)) r =
         subst (HeadSays s) (sym (head-is s n a b c m next p q r)) (three-lines s n a b c m next p q r)
 
-    second : (n a : ℕ) → number_line s 0 vars_key ≡ Parsed.Number n a → (r : Parsed) → number_line s a budget_key ≡ r → HeadSays s (head_at s)
-    second n a p Parsed.Broken q = subst (HeadSays s) (sym (head-no-budget s n a p q)) (budget-broken s n a p q, omega arith)
-    second n a p (Parsed.Number b c) q = third n a b c p q (number_line s c rows_key) refl
+    second : (n a : ℕ) → number_line s 0 vars_key ≡ Some (n, a) → (r : Option (ℕ × ℕ)) → number_line s a budget_key ≡ r → HeadSays s (head_at s)
+    second n a p None q = subst (HeadSays s) (sym (head-no-budget s n a p q)) (budget-broken s n a p q, omega arith)
+    second n a p (Some (b, c)) q = third n a b c p q (number_line s c rows_key) refl
 
-    first : (r : Parsed) → number_line s 0 vars_key ≡ r → HeadSays s (head_at s)
-    first Parsed.Broken p = subst (HeadSays s) (sym (head-no-vars s p)) (vars-broken s p, omega arith)
-    first (Parsed.Number n a) p = second n a p (number_line s a budget_key) refl
+    first : (r : Option (ℕ × ℕ)) → number_line s 0 vars_key ≡ r → HeadSays s (head_at s)
+    first None p = subst (HeadSays s) (sym (head-no-vars s p)) (vars-broken s p, omega arith)
+    first (Some (n, a)) p = second n a p (number_line s a budget_key) refl
 
 -- ---- the form itself
 
@@ -317,7 +316,7 @@ goes_on n b table more held some =
     let body : rows_at m s (head_end n b m) first_row_line ≡ rows table (length t) =
     rows-read-back m s (head_end n b m) first_row_line table held.whole held.rows head.1 ∙ ap (rows table) end in
     let far : length t ≡ length s → ⊥ = λ z. omega (arith, length-append t more) in
-    let why : rest_why s m (rows_at m s (head_end n b m) first_row_line) ≡ Refused (BadText (first_row_line + row_lines * m)) =
+    let why : rest_why s m (rows_at m s (head_end n b m) first_row_line) ≡ Err (BadText (first_row_line + row_lines * m)) =
     rw (body, ne_eqb (length t) (length s) far) in
     let lines = subst (HeadSays s) head.0 (head-says s) in
     (lines.faulted (first_row_line + row_lines * m) why).0

@@ -1,5 +1,6 @@
 -- A whole text read: what the head's figures must be for the rest to be judged, what is stored, and what is answered. Where all is fine there
 -- is room for the words, so that storing them one by one is putting them in front of the rest.
+use Rattle.std.specs.Prelude.{Result, Ok, Err}
 use Prim.Native.Nat.{ℕ, zero, suc, ◌+◌, ◌*◌, ◌<◌, ◌≤◌}
 use mathlib.Core.Path.{◌≡◌, refl, ◌∙◌}
 use mathlib.Core.List.{List}
@@ -10,36 +11,33 @@ use lib.Dec.{ltb}
 use lib.ListN.{length, length-append}
 use lib.Seq.{sets, sets-eq}
 use Rattle.literals.specs.Literal.{most_variables}
-use Rattle.rules.specs.declared.RowRead.{RowRead}
-use Rattle.rules.specs.declared.HeadRead.{HeadRead}
-use Rattle.rules.specs.declared.TextRead.{TextRead}
 use Rattle.rules.specs.declared.Refusal.{Refusal}
 use Rattle.rules.specs.declared.Refusal.TheVariants.{TooManyVariables, BadTable, NoRoom, BadBudget, BadText}
-use Rattle.rules.specs.declared.Judged.TheVariants.{Fine, Refused}
-use Rattle.rules.specs.Reader.{row_at, RowsRead, rows, broken_at, on_row, in_front, rows_at, head_at, rest_why, head_why}
+use Rattle.rules.specs.Reader.{row_at, RowsRead, rows, broken_at, on_row, in_front, rows_at, head_at, rest_why, head_why, text_says, three_lines}
 use Rattle.rules.specs.Reader.{read_why, words_of, read_words, read_step, read_table, text_read}
 use Rattle.rules.specs.Table.{row_words_of, row_words}
 use Rattle.rules.specs.Reader.{first_row_line, row_lines}
 use Rattle.rules.specs.Walk.{most_budget}
 use Rattle.rules.proofs.Judging.{refuse-fine}
+use Rattle.rules.specs.declared.Row.{Row}
 
 -- ---- the head's figures, in order
 
 module _ (most : ℕ) (s : List ℕ) (room n b m next : ℕ) where
-  pub over-variables : most_variables < n → head_why most s room (HeadRead.Lines n b m next) ≡ Refused TooManyVariables
+  pub over-variables : most_variables < n → head_why most s room (Ok (three_lines n b m next)) ≡ Err TooManyVariables
   over-variables h = rw (lt-ltb most_variables n h)
 
-  pub over-budget : n ≤ most_variables → most_budget < b → head_why most s room (HeadRead.Lines n b m next) ≡ Refused BadBudget
+  pub over-budget : n ≤ most_variables → most_budget < b → head_why most s room (Ok (three_lines n b m next)) ≡ Err BadBudget
   over-budget g h = rw (le-ltb most_variables n g, lt-ltb most_budget b h)
 
-  pub over-rows : n ≤ most_variables → b ≤ most_budget → most < m → head_why most s room (HeadRead.Lines n b m next) ≡ Refused BadTable
+  pub over-rows : n ≤ most_variables → b ≤ most_budget → most < m → head_why most s room (Ok (three_lines n b m next)) ≡ Err BadTable
   over-rows g h i = rw (le-ltb most_variables n g, le-ltb most_budget b h, lt-ltb most m i)
 
-  pub over-room : n ≤ most_variables → b ≤ most_budget → m ≤ most → room < row_words * m → head_why most s room (HeadRead.Lines n b m next) ≡ Refused NoRoom
+  pub over-room : n ≤ most_variables → b ≤ most_budget → m ≤ most → room < row_words * m → head_why most s room (Ok (three_lines n b m next)) ≡ Err NoRoom
   over-room g h i j = rw (le-ltb most_variables n g, le-ltb most_budget b h, le-ltb most m i, lt-ltb room (row_words * m) j)
 
   pub to-rest : n ≤ most_variables → b ≤ most_budget → m ≤ most → row_words * m ≤ room
-      → head_why most s room (HeadRead.Lines n b m next) ≡ rest_why s m (rows_at m s next first_row_line)
+      → head_why most s room (Ok (three_lines n b m next)) ≡ rest_why s m (rows_at m s next first_row_line)
   to-rest g h i j = rw (le-ltb most_variables n g, le-ltb most_budget b h, le-ltb most m i, le-ltb room (row_words * m) j)
 
 -- what a fine head says
@@ -48,9 +46,9 @@ pub record HeadFine (most : ℕ) (s : List ℕ) (room n b m next : ℕ) : Type 0
   pub budget : b ≤ most_budget
   pub few : m ≤ most
   pub fits : row_words * m ≤ room
-  pub rest : rest_why s m (rows_at m s next first_row_line) ≡ Fine
+  pub rest : rest_why s m (rows_at m s next first_row_line) ≡ Ok tt
 
-pub head-fine : (most : ℕ) (s : List ℕ) (room n b m next : ℕ) → head_why most s room (HeadRead.Lines n b m next) ≡ Fine → HeadFine most s room n b m next
+pub head-fine : (most : ℕ) (s : List ℕ) (room n b m next : ℕ) → head_why most s room (Ok (three_lines n b m next)) ≡ Ok tt → HeadFine most s room n b m next
 head-fine most s room n b m next e =
     let p1 = refuse-fine (ltb most_variables n) TooManyVariables _ e in
     let p2 = refuse-fine (ltb most_budget b) BadBudget _ p1.1 in
@@ -76,28 +74,28 @@ unfolding rows_at row_words_of
 words-length zero s at line = omega arith
 words-length (suc m) s at line = go (row_at s at line) (λ next. words-length m s next (line + row_lines))
   where
-    go : (r : RowRead) → ((next : ℕ) → length (words_of (rows_at m s next (line + row_lines))) ≤ row_words * m)
+    go : (r : Result (Row × ℕ) ℕ) → ((next : ℕ) → length (words_of (rows_at m s next (line + row_lines))) ≤ row_words * m)
         → length (words_of (on_row r (λ row next. in_front (row_words_of row) (rows_at m s next (line + row_lines))))) ≤ row_words * suc m
-    go (RowRead.Lines row next) ih = front_length (row_words_of row) m (rows_at m s next (line + row_lines)) refl (ih next)
-    go (RowRead.Broken b) ih = omega arith
+    go (Ok (row, next)) ih = front_length (row_words_of row) m (rows_at m s next (line + row_lines)) refl (ih next)
+    go (Err b) ih = omega arith
 
 -- ---- the answer, and the lent words
 
 module _ (most : ℕ) (s : List ℕ) (table : List ℕ) where
-  pub read-broken : (line : ℕ) → head_at s ≡ HeadRead.Broken line
-      → (TextRead.Refused (BadText line) ≡ text_read most s (length table)) × (table ≡ read_table most s table)
+  pub read-broken : (line : ℕ) → head_at s ≡ Err line
+      → (Err (BadText line) ≡ text_read most s (length table)) × (table ≡ read_table most s table)
   unfolding text_read read_table read_why
   read-broken line e = (rw e, rw e)
 
-  pub read-refused : (n b m next : ℕ) (r : Refusal) → head_at s ≡ HeadRead.Lines n b m next
-      → head_why most s (length table) (HeadRead.Lines n b m next) ≡ Refused r
-      → (TextRead.Refused r ≡ text_read most s (length table)) × (table ≡ read_table most s table)
+  pub read-refused : (n b m next : ℕ) (r : Refusal) → head_at s ≡ Ok (three_lines n b m next)
+      → head_why most s (length table) (Ok (three_lines n b m next)) ≡ Err r
+      → (Err r ≡ text_read most s (length table)) × (table ≡ read_table most s table)
   unfolding text_read read_table read_why
   read-refused n b m next r e h = (rw (e, h), rw (e, h))
 
-  pub read-fine : (n b m next : ℕ) → head_at s ≡ HeadRead.Lines n b m next
-      → head_why most s (length table) (HeadRead.Lines n b m next) ≡ Fine
-      → (TextRead.Table n b m ≡ text_read most s (length table)) × (sets table 0 (words_of (rows_at m s next first_row_line)) ≡ read_table most s table)
+  pub read-fine : (n b m next : ℕ) → head_at s ≡ Ok (three_lines n b m next)
+      → head_why most s (length table) (Ok (three_lines n b m next)) ≡ Ok tt
+      → (Ok (text_says n b m) ≡ text_read most s (length table)) × (sets table 0 (words_of (rows_at m s next first_row_line)) ≡ read_table most s table)
   unfolding text_read read_table read_why read_step read_words
   read-fine n b m next e h =
       let words = words_of (rows_at m s next first_row_line) in

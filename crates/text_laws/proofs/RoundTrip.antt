@@ -1,5 +1,6 @@
 -- The round trip: what the writer writes of a table that the form holds, as of each admissible one, is read back as that table. The text stands at its
 -- own start, so each line is read as it was written, the three of the head and the three of each row, and the last row ends where the text does.
+use Rattle.std.specs.Prelude.{Ok}
 use Prim.Native.Nat.{ℕ, ◌+◌, ◌*◌, ◌≤◌}
 use mathlib.Core.Path.{◌≡◌, refl, sym, ap, ◌∙◌}
 use mathlib.Core.Bool.{true}
@@ -12,14 +13,11 @@ use lib.ListN.{length}
 use Rattle.masks.proofs.Bits.{below-lt}
 use Rattle.literals.specs.Literal.{most_variables}
 use Rattle.rules.specs.declared.Row.{Row}
-use Rattle.rules.specs.declared.HeadRead.{HeadRead}
-use Rattle.rules.specs.declared.TextRead.{TextRead}
-use Rattle.rules.specs.declared.Judged.TheVariants.{Fine}
 use Rattle.rules.proofs.Judging.{is_fine}
 use Rattle.rules.specs.Walk.{most_budget}
 use Rattle.rules.specs.Table.{row_count, row_of, table_why, row_words, most_rows}
 use Rattle.rules.specs.Text.{rows_text, table_text}
-use Rattle.rules.specs.Reader.{first_row_line}
+use Rattle.rules.specs.Reader.{first_row_line, text_says, three_lines}
 use Rattle.rules.specs.Reader.{stands, head_at, rows, rows_at, rest_why, head_why, read_why, read_words, text_read}
 use Rattle.rules.proofs.Judging.{is-fine}
 use Rattle.rules.proofs.Admissible.{RowFine, table-fine}
@@ -40,19 +38,19 @@ fine-held n row h f =
     }
 
 pub record ReadBack (most : ℕ) (text : List ℕ) (room n b : ℕ) (table : List ℕ) : Type 0 where
-  pub answer : text_read most text room ≡ TextRead.Table n b (row_count table)
-  pub fine : read_why most text room ≡ Fine
+  pub answer : text_read most text room ≡ Ok (text_says n b (row_count table))
+  pub fine : read_why most text room ≡ Ok tt
   pub words : read_words text ≡ table
 
 -- from what the parts are read as
-put-together : (most : ℕ) (s : List ℕ) (room n b m : ℕ) (table : List ℕ) (next : ℕ) → head_at s ≡ HeadRead.Lines n b m next
+put-together : (most : ℕ) (s : List ℕ) (room n b m : ℕ) (table : List ℕ) (next : ℕ) → head_at s ≡ Ok (three_lines n b m next)
     → n ≤ most_variables → b ≤ most_budget → m ≤ most → row_words * m ≤ room
     → rows_at m s next first_row_line ≡ rows table (length s)
-    → (text_read most s room ≡ TextRead.Table n b m) × (read_why most s room ≡ Fine) × (read_words s ≡ table)
+    → (text_read most s room ≡ Ok (text_says n b m)) × (read_why most s room ≡ Ok tt) × (read_words s ≡ table)
 unfolding text_read read_why read_words
 put-together most s room n b m table next head ln lb lm lr body =
-    let rest : rest_why s m (rows_at m s next first_row_line) ≡ Fine = rw (body, eq-eqb (length s) (length s) refl) in
-    let why : head_why most s room (HeadRead.Lines n b m next) ≡ Fine = to-rest most s room n b m next ln lb lm lr ∙ rest in
+    let rest : rest_why s m (rows_at m s next first_row_line) ≡ (Ok tt) = rw (body, eq-eqb (length s) (length s) refl) in
+    let why : head_why most s room (Ok (three_lines n b m next)) ≡ (Ok tt) = to-rest most s room n b m next ln lb lm lr ∙ rest in
     (rw (head, why), rw head why, rw (head, body))
 
 -- whatever the form holds is read back, where its figures keep their limits

@@ -1,5 +1,6 @@
 -- Rows. A row is three lines; the rows of a table, one behind the other, are read as its words, and words that are read are those of rows
 -- that stand there, one behind the other.
+use Rattle.std.specs.Prelude.{Option, Some, None, Result, Ok, Err}
 use Prim.Native.Nat.{ℕ, zero, suc, ◌+◌, ◌*◌, ◌^◌, ◌<◌, ◌≤◌}
 use mathlib.Core.Path.{◌≡◌, refl, sym, ap, subst, ◌∙◌}
 use mathlib.Core.Logic.{⊎_elim}
@@ -13,9 +14,6 @@ use Rattle.masks.proofs.Choice.{cases, impossible}
 use Rattle.literals.specs.declared.Lits.{Lits}
 use Rattle.literals.specs.Literal.{most_variables}
 use Rattle.rules.specs.declared.Row.{Row}
-use Rattle.rules.specs.declared.Parsed.{Parsed}
-use Rattle.rules.specs.declared.Listed.{Listed}
-use Rattle.rules.specs.declared.RowRead.{RowRead}
 use Rattle.rules.specs.Table.{row_of, row_words_of, row_words, marked_row}
 use Rattle.rules.specs.Text.{lits_text, row_text, rows_text, line_feed}
 use Rattle.rules.specs.Reader.{row_lines}
@@ -38,7 +36,7 @@ list-end : (at : ℕ) (l : Lits) → at + length (list_text l) ≡ at + length l
 list-end at l = rw (length-append lits_key (lits_text most_variables l ++ (line_feed ∷ []))) (omega arith)
 
 pub list-reads : (s : List ℕ) (at : ℕ) (l : Lits) → l.positive < 2 ^ most_variables → l.negative < 2 ^ most_variables → bit_and l.positive l.negative ≡ 0
-    → stands s at (list_text l) ≡ true → lits_line s at ≡ Listed.Literals l (at + length (list_text l))
+    → stands s at (list_text l) ≡ true → lits_line s at ≡ Some (l, at + length (list_text l))
 list-reads s at l p n a e =
     let rest = lits_text most_variables l ++ (line_feed ∷ []) in
     line-of-lits s at (first-stands s at lits_key rest e) ∙ lits-read s (at + length lits_key) l p n a (second-stands s at lits_key rest e) ∙ rw (list-end at l)
@@ -50,7 +48,7 @@ pub record ListHeld (s : List ℕ) (at : ℕ) (l : Lits) (next : ℕ) : Type 0 w
   pub negative : l.negative < 2 ^ most_variables
   pub both : bit_and l.positive l.negative ≡ 0
 
-pub list-found : (s : List ℕ) (at : ℕ) (l : Lits) (next : ℕ) → lits_line s at ≡ Listed.Literals l next → ListHeld s at l next
+pub list-found : (s : List ℕ) (at : ℕ) (l : Lits) (next : ℕ) → lits_line s at ≡ Some (l, next) → ListHeld s at l next
 list-found s at l next e =
     ⊎_elim
     (λ (t : stands s at lits_key ≡ true).
@@ -70,7 +68,7 @@ list-found s at l next e =
 -- ---- a row
 
 pub row_reads : (s : List ℕ) (at ln : ℕ) (row : Row) → RowHeld row → stands s at (row_text row) ≡ true
-    → row_at s at ln ≡ RowRead.Lines row (at + length (row_text row))
+    → row_at s at ln ≡ Ok (row, at + length (row_text row))
 row_reads s at ln row w e =
     let one = line_text weight_key row.weight in
     let two = line_text hard_key row.mark in
@@ -83,14 +81,14 @@ row_reads s at ln row w e =
     let past = mid + length two in
     let lits = list-reads s past row.lits w.positive w.negative w.apart (second-stands s mid two three e2) in
     let end : past + length three ≡ at + length (row_text row) = rw (row-text row, length-append one (two ++ three), length-append two three) (omega arith) in
-    row_is s at ln row.weight mid row.mark past weight mark row.lits (past + length three) lits ∙ ap (RowRead.Lines row) end
+    row_is s at ln row.weight mid row.mark past weight mark row.lits (past + length three) lits ∙ ap (λ next. Ok (row, next)) end
 
 -- a row that is read: it stands there, and the form holds it
 abbrev Standing : List ℕ → ℕ → Row → ℕ → Type 0
 Standing s at row next = (stands s at (row_text row) ≡ true) × (next ≡ at + length (row_text row)) × RowHeld row
 
-pub row-held : (s : List ℕ) (at w mid m past : ℕ) (l : Lits) (end : ℕ) → number_line s at weight_key ≡ Parsed.Number w mid → mark_line s mid ≡ Parsed.Number m past
-    → lits_line s past ≡ Listed.Literals l end → RowHeld (marked_row l w m)
+pub row-held : (s : List ℕ) (at w mid m past : ℕ) (l : Lits) (end : ℕ) → number_line s at weight_key ≡ Some (w, mid) → mark_line s mid ≡ Some (m, past)
+    → lits_line s past ≡ Some (l, end) → RowHeld (marked_row l w m)
 row-held s at w mid m past l end p o q =
     let found = list-found s past l end q in
     record {
@@ -101,8 +99,8 @@ row-held s at w mid m past l end p o q =
       mark = (mark-found s mid m past o).small;
     }
 
-row-stands : (s : List ℕ) (at w mid m past : ℕ) (l : Lits) (end : ℕ) → number_line s at weight_key ≡ Parsed.Number w mid → mark_line s mid ≡ Parsed.Number m past
-    → lits_line s past ≡ Listed.Literals l end → Standing s at (marked_row l w m) end
+row-stands : (s : List ℕ) (at w mid m past : ℕ) (l : Lits) (end : ℕ) → number_line s at weight_key ≡ Some (w, mid) → mark_line s mid ≡ Some (m, past)
+    → lits_line s past ≡ Some (l, end) → Standing s at (marked_row l w m) end
 row-stands s at w mid m past l end p o q =
     let f = line-found s at weight_key w mid p in
     let g = line-found s mid hard_key m past (mark-found s mid m past o).line in
@@ -117,32 +115,32 @@ row-stands s at w mid m past l end p o q =
       row-held s at w mid m past l end p o q,
     )
 
-pub row-found : (s : List ℕ) (at ln : ℕ) (row : Row) (next : ℕ) → row_at s at ln ≡ RowRead.Lines row next → Standing s at row next
+pub row-found : (s : List ℕ) (at ln : ℕ) (row : Row) (next : ℕ) → row_at s at ln ≡ Ok (row, next) → Standing s at row next
 row-found s at ln row next e = weighed (number_line s at weight_key) refl
   where
-    listed : (w mid m past : ℕ) → number_line s at weight_key ≡ Parsed.Number w mid → mark_line s mid ≡ Parsed.Number m past
-        → (r : Listed) → lits_line s past ≡ r → Standing s at row next
-    listed w mid m past p o Listed.Broken q =
+    listed : (w mid m past : ℕ) → number_line s at weight_key ≡ Some (w, mid) → mark_line s mid ≡ Some (m, past)
+        → (r : Option (Lits × ℕ)) → lits_line s past ≡ r → Standing s at row next
+    listed w mid m past p o None q =
         let b = row-no-lits s at ln w mid m past p o q in
         impossible (cc)
-    listed w mid m past p o (Listed.Literals l end) q =
+    listed w mid m past p o (Some (l, end)) q =
         let b = row_is s at ln w mid m past p o l end q in
         let wl : marked_row l w m ≡ row = cc in
         let en : end ≡ next = cc in
         let found = row-stands s at w mid m past l end p o q in
         rw (← wl, ← en) found
 
-    marked : (w mid : ℕ) → number_line s at weight_key ≡ Parsed.Number w mid → (r : Parsed) → mark_line s mid ≡ r → Standing s at row next
-    marked w mid p Parsed.Broken q =
+    marked : (w mid : ℕ) → number_line s at weight_key ≡ Some (w, mid) → (r : Option (ℕ × ℕ)) → mark_line s mid ≡ r → Standing s at row next
+    marked w mid p None q =
         let b = row-no-mark s at ln w mid p q in
         impossible (cc)
-    marked w mid p (Parsed.Number m past) q = listed w mid m past p q (lits_line s past) refl
+    marked w mid p (Some (m, past)) q = listed w mid m past p q (lits_line s past) refl
 
-    weighed : (r : Parsed) → number_line s at weight_key ≡ r → Standing s at row next
-    weighed Parsed.Broken p =
+    weighed : (r : Option (ℕ × ℕ)) → number_line s at weight_key ≡ r → Standing s at row next
+    weighed None p =
         let b = row-no-weight s at ln p in
         impossible (cc)
-    weighed (Parsed.Number w mid) p = marked w mid p (mark_line s mid) refl
+    weighed (Some (w, mid)) p = marked w mid p (mark_line s mid) refl
 
 -- ---- the rows of a table from row i on
 
@@ -225,7 +223,7 @@ Run d s at words next =
     (length words ≡ row_words * d) × (stands s at (rows_from d 0 words) ≡ true) × (next ≡ at + length (rows_from d 0 words))
     × ((i : ℕ) → i < d → RowHeld (row_of words i))
 
-run_more : (d : ℕ) (s : List ℕ) (at ln : ℕ) (row : Row) (mid : ℕ) (more : List ℕ) (next : ℕ) → row_at s at ln ≡ RowRead.Lines row mid
+run_more : (d : ℕ) (s : List ℕ) (at ln : ℕ) (row : Row) (mid : ℕ) (more : List ℕ) (next : ℕ) → row_at s at ln ≡ Ok (row, mid)
     → Run d s mid more next → Run (suc d) s at (row_words_of row ++ more) next
 unfolding Run rows_from
 run_more d s at ln row mid more next e w =
@@ -249,7 +247,7 @@ runs zero s at ln words next e =
     rw (← w, ← n) (omega arith, stands-none s at, sym (add-zero at), λ i l. absurd (omega arith))
 runs (suc d) s at ln words next e = on_row (row_at s at ln) refl (λ mid more end. runs d s mid (ln + row_lines) more end)
   where
-    behind-row : (row : Row) (mid : ℕ) → row_at s at ln ≡ RowRead.Lines row mid → (r : RowsRead) → rows_at d s mid (ln + row_lines) ≡ r
+    behind-row : (row : Row) (mid : ℕ) → row_at s at ln ≡ Ok (row, mid) → (r : RowsRead) → rows_at d s mid (ln + row_lines) ≡ r
         → ((more : List ℕ) (end : ℕ) → rows_at d s mid (ln + row_lines) ≡ rows more end → Run d s mid more end) → Run (suc d) s at words next
     behind-row row mid p (broken_at b) q ih =
         let r = rows_next s d at ln row mid p in
@@ -262,12 +260,12 @@ runs (suc d) s at ln words next e = on_row (row_at s at ln) refl (λ mid more en
         let n : end ≡ next = cc in
         rw (← w, ← n) (run_more d s at ln row mid more end p (ih more end q))
 
-    on_row : (r : RowRead) → row_at s at ln ≡ r → ((mid : ℕ) (more : List ℕ) (end : ℕ) → rows_at d s mid (ln + row_lines) ≡ rows more end → Run d s mid more end)
+    on_row : (r : Result (Row × ℕ) ℕ) → row_at s at ln ≡ r → ((mid : ℕ) (more : List ℕ) (end : ℕ) → rows_at d s mid (ln + row_lines) ≡ rows more end → Run d s mid more end)
         → Run (suc d) s at words next
-    on_row (RowRead.Broken b) p ih =
+    on_row (Err b) p ih =
         let z : rows_at (suc d) s at ln ≡ broken_at b = rw p in
         impossible (cc)
-    on_row (RowRead.Lines row mid) p ih = behind-row row mid p (rows_at d s mid (ln + row_lines)) refl (ih mid)
+    on_row (Ok (row, mid)) p ih = behind-row row mid p (rows_at d s mid (ln + row_lines)) refl (ih mid)
 
 -- ---- the rows' two laws
 

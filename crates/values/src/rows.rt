@@ -3,7 +3,7 @@ ghost use Rattle.std.specs.Prelude.{◌≡◌, cond};
 ghost use Rattle.rules.specs.Table.{with_weight, is_hard, holds, given_up, breaks, bad_lits, bad_mark, bad_weight, row_why};
 
 use literals::Lits;
-use rules::{Judged, Refusal, Row};
+use rules::{Refusal, Row};
 
 // The row with another weight.
 pub fn with_weight(row: Row, weight: u64) -> Row
@@ -44,16 +44,16 @@ pub fn breaks(row: Row, reading: u64) -> bool
 }
 
 // The refusal that row i of a table earns, 5 before 6.
-pub fn row_why(variables: u64, i: u64, row: Row) -> Judged
+pub fn row_why(variables: u64, i: u64, row: Row) -> Result<(), Refusal>
     ensures { result ≡ row_why variables i row }
 {
     if bad_lits(variables, row.lits) {
-        return Judged::Refused(Refusal::BadLiterals(i));
+        return Err(Refusal::BadLiterals(i));
     }
     if bad_weight(row) {
-        return Judged::Refused(Refusal::BadWeight(i));
+        return Err(Refusal::BadWeight(i));
     }
-    Judged::Fine
+    Ok(())
 }
 
 // A full reading makes one of the literals true.

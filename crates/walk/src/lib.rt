@@ -7,7 +7,7 @@ ghost use Rattle.desk_laws.specs.Readable.{Readable};
 
 use formed::well_formed;
 use groups::inner::WORDS;
-use rules::{Choice, Found, Refusal, Searched};
+use rules::{Choice, Found, Refusal};
 
 mod depth;
 pub mod inner;
@@ -28,12 +28,12 @@ fn found_by_choice(desk: &[u64], choice: Choice, budget: u32) -> Found
 }
 
 // The search of a desk by the bound that is chosen, or the refusal. The desk is only read.
-pub fn search(desk: &[u64], choice: Choice, budget: u32) -> Searched
+pub fn search(desk: &[u64], choice: Choice, budget: u32) -> Result<Found, Refusal>
     ensures { result ≡ searched desk.now choice budget }
 {
     if well_formed(desk) {
-        Searched::Found(found_by_choice(desk, choice, budget))
+        Ok(found_by_choice(desk, choice, budget))
     } else {
-        Searched::Refused(Refusal::BadDesk)
+        Err(Refusal::BadDesk)
     }
 }

@@ -94,13 +94,13 @@ fn status_of(stopped: bool, kept: bool) -> Status
     }
 }
 
-fn best_of(kept: bool, weight: u64, reading: u64) -> Best
+fn best_of(kept: bool, weight: u64, reading: u64) -> Option<Best>
     ensures { result ≡ best_of kept weight reading }
 {
     if kept {
-        Best::Reading { weight, reading }
+        Some(Best { weight, reading })
     } else {
-        Best::Nothing
+        None
     }
 }
 

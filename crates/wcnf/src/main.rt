@@ -7,7 +7,6 @@ ghost use Rattle.rules.specs.WcnfProgram.{wcnf_answer};
 ghost use Rattle.wcnf_lines.specs.Lengths.{most_answer};
 ghost use Rattle.streams.specs.Replies.{Replies};
 
-use rules::Written;
 use std::io;
 
 // No answer is longer.
@@ -18,10 +17,7 @@ fn reply(input: &[u8], output: &mut [u8]) -> usize
     requires { most_answer ≤ length output.old }
     ensures { Replies (wcnf_answer input.now) result output.new }
 {
-    let Written::Bytes(n) = wcnf_answer::answer_wcnf(input, output) else {
-        return 0;
-    };
-    n
+    wcnf_answer::answer_wcnf(input, output).unwrap_or(0)
 }
 
 fn main(rt: HostRuntime) -> io::Result<()> {

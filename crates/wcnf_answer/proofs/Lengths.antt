@@ -1,4 +1,5 @@
 -- No answer is longer than the lines of a search can be, so that a buffer of that size never refuses one.
+use Rattle.std.specs.Prelude.{Result, Ok, Err}
 use Prim.Native.Nat.{ℕ, ◌*◌, ◌≤◌}
 use mathlib.Core.Path.{◌≡◌, refl, subst}
 use mathlib.Core.Logic.{⊎_elim}
@@ -7,7 +8,6 @@ use native.Mathlib.Omega.{arith}
 use lib.ListN.{length}
 use Rattle.masks.proofs.Choice.{lt-or-le}
 use Rattle.rules.specs.declared.WcnfRead.{WcnfRead}
-use Rattle.rules.specs.declared.Judged.TheVariants.{Fine}
 use Rattle.rules.specs.Table.{row_words}
 use Rattle.rules.specs.Walk.{most_budget}
 use Rattle.rules.specs.WcnfReader.{wcnf_words, wcnf_read}
@@ -20,6 +20,7 @@ use Rattle.wcnf_lines.specs.Lengths.{most_answer}
 use Rattle.wcnf_lines.proofs.Lengths.{outcome-length}
 use Rattle.wcnf_laws.proofs.Found.{read-fine}
 use Rattle.wcnf_answer.proofs.Answering.{too_long, not-read, read}
+use Rattle.rules.specs.declared.Refusal.{Refusal}
 
 -- what is searched was read, and so has few variables
 pub outcome-counted : (input : List ℕ) → Counted (wcnf_outcome_of input)
@@ -29,16 +30,16 @@ outcome-counted input =
     (λ short. by-text short (wcnf_read most_input_rows input (row_words * most_input_rows)) refl)
     (lt-or-le most_input (length input))
   where
-    by-text : length input ≤ most_input → (t : WcnfRead) → wcnf_read most_input_rows input (row_words * most_input_rows) ≡ t → Counted (wcnf_outcome_of input)
-    by-text short (WcnfRead.Table n m) e =
-        subst Counted (read input short (row_words * most_input_rows) n m (wcnf_words input) refl e refl)
-        (table_counted n most_budget m (wcnf_words input) (read-fine most_input_rows input (row_words * most_input_rows) n m e).variables)
-    by-text short (WcnfRead.Refused r) e = subst Counted (not-read input short (row_words * most_input_rows) r refl e) tt
+    by-text : length input ≤ most_input → (t : Result WcnfRead Refusal) → wcnf_read most_input_rows input (row_words * most_input_rows) ≡ t → Counted (wcnf_outcome_of input)
+    by-text short (Ok said) e =
+        subst Counted (read input short (row_words * most_input_rows) said.variables said.rows (wcnf_words input) refl e refl)
+        (table_counted said.variables most_budget said.rows (wcnf_words input) (read-fine most_input_rows input (row_words * most_input_rows) said.variables said.rows e).variables)
+    by-text short (Err r) e = subst Counted (not-read input short (row_words * most_input_rows) r refl e) tt
 
 pub answer-length : (input : List ℕ) → length (wcnf_answer input) ≤ most_answer
 unfolding wcnf_answer
 answer-length input = outcome-length (wcnf_outcome_of input) (outcome-counted input)
 
 -- so bytes enough for any answer get it
-pub never-refused : (input output : List ℕ) → most_answer ≤ length output → wcnf_answer_why input output ≡ Fine
-never-refused input output enough = text-fine Fine (wcnf_answer input) output refl (omega (arith, answer-length input, enough))
+pub never-refused : (input output : List ℕ) → most_answer ≤ length output → wcnf_answer_why input output ≡ Ok tt
+never-refused input output enough = text-fine (Ok tt) (wcnf_answer input) output refl (omega (arith, answer-length input, enough))

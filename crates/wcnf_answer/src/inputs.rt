@@ -8,15 +8,14 @@ use outcomes::inner::search_read;
 use rules::{Desk, Outcome, Refusal, TextRead, WcnfRead};
 use wcnf_reader::inner::read_up_to;
 
-pub fn outcome_of(input: &[u8]) -> Outcome
+pub fn outcome_of(input: &[u8]) -> Result<Outcome, Refusal>
     ensures { result ≡ wcnf_outcome_of input.now }
 {
     if input.len() > TextRead::MOST_INPUT {
-        return Outcome::Refused(Refusal::InputTooLong);
+        return Err(Refusal::InputTooLong);
     }
     let mut words = [0u64; WORDS];
-    match read_up_to(TextRead::MOST_INPUT_ROWS, input, &mut words[Desk::HEAD..]) {
-        WcnfRead::Refused(why) => Outcome::Refused(why),
-        WcnfRead::Table { variables, rows } => search_read(variables, u32::MAX, rows, &mut words),
-    }
+    let WcnfRead { variables, rows } =
+        read_up_to(TextRead::MOST_INPUT_ROWS, input, &mut words[Desk::HEAD..])?;
+    search_read(variables, u32::MAX, rows, &mut words)
 }

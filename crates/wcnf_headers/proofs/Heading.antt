@@ -1,4 +1,5 @@
 -- The header: what its definitions come to in each case, and that the line it is said to be on is one of the text's.
+use Rattle.std.specs.Prelude.{Option, Some, None, Result, Ok, Err}
 use Prim.Native.Nat.{ℕ, zero, suc, ◌+◌, ◌-◌, ◌<◌, ◌≤◌}
 use mathlib.Core.Path.{◌≡◌, refl}
 use mathlib.Core.Bool.{Bool, true, false, cond, ◌&&◌}
@@ -8,11 +9,10 @@ use borrow.Author.Tests.{eq-eqb, ne_eqb, lt-ltb, le-ltb}
 use lib.Dec.{ltb}
 use lib.ListN.{length, get_or}
 use Rattle.masks.proofs.Choice.{impossible}
-use Rattle.rules.specs.declared.Parsed.{Parsed}
 use Rattle.rules.specs.declared.WcnfHead.{WcnfHead}
 use Rattle.rules.specs.Text.{bytes, line_feed}
 use Rattle.rules.specs.Reader.{stands, ended, on_number}
-use Rattle.rules.specs.WcnfReader.{space_run, parted_at, feed_from, header_at, header_from}
+use Rattle.rules.specs.WcnfReader.{space_run, parted_at, feed_from, header_at, header_from, header_says}
 use Rattle.wcnf_headers.specs.Headers.{figures_at}
 
 -- the first bytes of the header, its name, and the first byte of a comment
@@ -28,38 +28,38 @@ comment_sign = 99
 -- ---- the three figures
 
 module _ (s : List ℕ) (at line : ℕ) where
-  pub no-variables : parted_at s at ≡ Parsed.Broken → figures_at s at line ≡ WcnfHead.Broken line
+  pub no-variables : parted_at s at ≡ None → figures_at s at line ≡ Err line
   unfolding figures_at
   no-variables e = rw e
 
-  module _ (v one : ℕ) (e : parted_at s at ≡ Parsed.Number v one) where
-    pub no-clauses : parted_at s one ≡ Parsed.Broken → figures_at s at line ≡ WcnfHead.Broken line
+  module _ (v one : ℕ) (e : parted_at s at ≡ Some (v, one)) where
+    pub no-clauses : parted_at s one ≡ None → figures_at s at line ≡ Err line
     unfolding figures_at
     no-clauses f = rw (e, f)
 
-    module _ (m two : ℕ) (f : parted_at s one ≡ Parsed.Number m two) where
-      pub no_top : parted_at s two ≡ Parsed.Broken → figures_at s at line ≡ WcnfHead.Broken line
+    module _ (m two : ℕ) (f : parted_at s one ≡ Some (m, two)) where
+      pub no_top : parted_at s two ≡ None → figures_at s at line ≡ Err line
       unfolding figures_at
       no_top g = rw (e, f, g)
 
-      pub no_end : (top three : ℕ) → parted_at s two ≡ Parsed.Number top three → (get_or s three 0 ≡ line_feed → ⊥) → figures_at s at line ≡ WcnfHead.Broken line
+      pub no_end : (top three : ℕ) → parted_at s two ≡ Some (top, three) → (get_or s three 0 ≡ line_feed → ⊥) → figures_at s at line ≡ Err line
       unfolding figures_at
       no_end top three g h = rw (e, f, g, ne_eqb (get_or s three 0) line_feed h)
 
-      pub figures-are : (top three : ℕ) → parted_at s two ≡ Parsed.Number top three → get_or s three 0 ≡ line_feed
-          → figures_at s at line ≡ WcnfHead.Figures v m top (three + 1) line
+      pub figures-are : (top three : ℕ) → parted_at s two ≡ Some (top, three) → get_or s three 0 ≡ line_feed
+          → figures_at s at line ≡ Ok (header_says v m top (three + 1) line)
       unfolding figures_at
       figures-are top three g h = rw (e, f, g, eq-eqb (get_or s three 0) line_feed h)
 
 -- ---- the header's line
 
 module _ (s : List ℕ) (at line : ℕ) where
-  pub no-first : stands s at first_key ≡ false → header_at s at line ≡ WcnfHead.Broken line
+  pub no-first : stands s at first_key ≡ false → header_at s at line ≡ Err line
   unfolding header_at bytes
   no-first e = rw e
 
   module _ (gap : ℕ) (g : gap ≡ space_run s (at + 1) (length s)) (e : stands s at first_key ≡ true) where
-    pub no_name : stands s (at + 1 + gap) name_key ≡ false → header_at s at line ≡ WcnfHead.Broken line
+    pub no_name : stands s (at + 1 + gap) name_key ≡ false → header_at s at line ≡ Err line
     unfolding header_at bytes
     no_name h = rw (← g, e, h)
 
@@ -77,7 +77,7 @@ no-comment : (s : List ℕ) (at : ℕ) → (get_or s at 0 ≡ comment_sign → �
 unfolding stands
 no-comment s at h = rw (ne_eqb (get_or s at 0) comment_sign h)
 
-pub head-none : (s : List ℕ) (at line : ℕ) → header_from 0 s at line ≡ WcnfHead.Broken line
+pub head-none : (s : List ℕ) (at line : ℕ) → header_from 0 s at line ≡ Err line
 unfolding header_from
 head-none s at line = refl
 
@@ -87,7 +87,7 @@ module _ (k : ℕ) (s : List ℕ) (at line : ℕ) where
   head-here h = rw (no-comment s at h)
 
   module _ (feed : ℕ) (f : feed ≡ feed_from (length s - at) s at) (c : get_or s at 0 ≡ comment_sign) where
-    pub head-unended : length s ≤ feed → header_from (suc k) s at line ≡ WcnfHead.Broken line
+    pub head-unended : length s ≤ feed → header_from (suc k) s at line ≡ Err line
     unfolding header_from bytes
     head-unended h = rw (← f, comment-stands s at c, le-ltb feed (length s) h)
 
@@ -102,54 +102,54 @@ abbrev named : List ℕ → ℕ → ℕ
 named s at = at + 1 + space_run s (at + 1) (length s)
 
 module _ (line v m t n l : ℕ) where
-  abbrev Says : WcnfHead → Type 0
-  Says h = h ≡ WcnfHead.Figures v m t n l
+  abbrev Says : Result WcnfHead ℕ → Type 0
+  Says h = h ≡ Ok (header_says v m t n l)
 
-  same_line : (a b c d : ℕ) → Says (WcnfHead.Figures a b c d line) → l ≡ line
+  same_line : (a b c d : ℕ) → Says (Ok (header_says a b c d line)) → l ≡ line
   same_line a b c d e = cc
 
   figures-line : (s : List ℕ) (at : ℕ) → Says (figures_at s at line) → l ≡ line
   unfolding figures_at
   figures-line s at e = first (parted_at s at) e
     where
-      third : (a b : ℕ) (p : Parsed) → Says (on_number p (WcnfHead.Broken line) (λ top next. WcnfHead.Figures a b top next line)) → l ≡ line
-      third a b (Parsed.Number top next) h = same_line a b top next h
-      third a b Parsed.Broken h = impossible (cc)
+      third : (a b : ℕ) (p : Option (ℕ × ℕ)) → Says (on_number p (Err line) (λ top next. Ok (header_says a b top next line))) → l ≡ line
+      third a b (Some (top, next)) h = same_line a b top next h
+      third a b None h = impossible (cc)
 
-      second : (a : ℕ) (p : Parsed)
+      second : (a : ℕ) (p : Option (ℕ × ℕ))
           → Says
-          (on_number p (WcnfHead.Broken line) (λ clauses next.
-          on_number (ended s (parted_at s next)) (WcnfHead.Broken line) (λ top next. WcnfHead.Figures a clauses top next line)))
+          (on_number p (Err line) (λ clauses next.
+          on_number (ended s (parted_at s next)) (Err line) (λ top next. Ok (header_says a clauses top next line))))
           → l ≡ line
-      second a (Parsed.Number b next) h = third a b (ended s (parted_at s next)) h
-      second a Parsed.Broken h = impossible (cc)
+      second a (Some (b, next)) h = third a b (ended s (parted_at s next)) h
+      second a None h = impossible (cc)
 
-      first : (p : Parsed)
+      first : (p : Option (ℕ × ℕ))
           → Says
-          (on_number p (WcnfHead.Broken line) (λ variables next.
-          on_number (parted_at s next) (WcnfHead.Broken line) (λ clauses next.
-          on_number (ended s (parted_at s next)) (WcnfHead.Broken line) (λ top next. WcnfHead.Figures variables clauses top next line))))
+          (on_number p (Err line) (λ variables next.
+          on_number (parted_at s next) (Err line) (λ clauses next.
+          on_number (ended s (parted_at s next)) (Err line) (λ top next. Ok (header_says variables clauses top next line)))))
           → l ≡ line
-      first (Parsed.Number a next) h = second a (parted_at s next) h
-      first Parsed.Broken h = impossible (cc)
+      first (Some (a, next)) h = second a (parted_at s next) h
+      first None h = impossible (cc)
 
   header-line : (s : List ℕ) (at : ℕ) → Says (header_at s at line) → l ≡ line
   unfolding header_at figures_at
   header-line s at e = go (stands s at (bytes "p ") && stands s (named s at) (bytes "wcnf")) e
     where
-      go : (b : Bool) → Says (cond b (figures_at s (named s at + 4) line) (WcnfHead.Broken line)) → l ≡ line
+      go : (b : Bool) → Says (cond b (figures_at s (named s at + 4) line) (Err line)) → l ≡ line
       go true h = figures-line s (named s at + 4) h
       go false h = impossible (cc)
 
-pub line_small : (k : ℕ) (s : List ℕ) (at line v m t n l : ℕ) → header_from k s at line ≡ WcnfHead.Figures v m t n l → l < line + k
+pub line_small : (k : ℕ) (s : List ℕ) (at line v m t n l : ℕ) → header_from k s at line ≡ Ok (header_says v m t n l) → l < line + k
 unfolding header_from
 line_small zero s at line v m t n l e = impossible (cc)
 line_small (suc k) s at line v m t n l e =
     comment (λ place h. line_small k s place (line + 1) v m t n l h) (stands s at (bytes "c")) (ltb (feed_from (length s - at) s at) (length s)) e
   where
-    comment : ((place : ℕ) → header_from k s place (line + 1) ≡ WcnfHead.Figures v m t n l → l < line + 1 + k) → (b c : Bool)
-        → cond b (cond c (header_from k s (feed_from (length s - at) s at + 1) (line + 1)) (WcnfHead.Broken line)) (header_at s at line)
-        ≡ WcnfHead.Figures v m t n l
+    comment : ((place : ℕ) → header_from k s place (line + 1) ≡ Ok (header_says v m t n l) → l < line + 1 + k) → (b c : Bool)
+        → cond b (cond c (header_from k s (feed_from (length s - at) s at + 1) (line + 1)) (Err line)) (header_at s at line)
+        ≡ Ok (header_says v m t n l)
         → l < line + suc k
     comment ih true true h = omega (arith, ih (feed_from (length s - at) s at + 1) h)
     comment ih true false h = impossible (cc)

@@ -1,5 +1,6 @@
 -- A clause's line: of the form, it is read as its weight and its literals; read, it stands there as a line of the form. Each literal has its gap in front,
 -- so that there are fewer literals than bytes, and the closing 0 is told from them by its value.
+use Rattle.std.specs.Prelude.{Option, Some, None}
 use Prim.Native.Nat.{ℕ, zero, suc, ◌+◌, ◌^◌, ◌<◌}
 use mathlib.Core.Path.{◌≡◌, refl, sym, ap, ◌∙◌}
 use mathlib.Core.Bool.{Bool, true, false, cond}
@@ -11,7 +12,6 @@ use lib.IntN.{ℤ, pos, negsuc, neg_ℤ}
 use lib.ListN.{length, get_or, length-append}
 use Rattle.masks.proofs.Choice.{impossible}
 use Rattle.literals.specs.Literal.{size}
-use Rattle.rules.specs.declared.Parsed.{Parsed}
 use Rattle.rules.specs.Text.{digits, number_text, space, minus, line_feed, digit_zero, most_digits}
 use Rattle.rules.specs.Reader.{stands, is_digit, number_at, on_number}
 use Rattle.rules.specs.WcnfReader.{space_run, MembersRead, members, broken_line, with_member, on_signed, members_from, on_clause}
@@ -59,19 +59,19 @@ pub record Onward (s : List ℕ) (at : ℕ) (go : ℤ → ℕ → MembersRead) (
   pub rest : go literal next ≡ r
 
 module _ (s : List ℕ) (at : ℕ) (go : ℤ → ℕ → MembersRead) (ls : List ℤ) (end : ℕ) where
-  found_plain : (p : Parsed) → number_at s at ≡ p → on_number p broken_line (λ v next. go (pos v) next) ≡ members ls end → Onward s at go (members ls end)
+  found_plain : (p : Option (ℕ × ℕ)) → number_at s at ≡ p → on_number p broken_line (λ v next. go (pos v) next) ≡ members ls end → Onward s at go (members ls end)
   unfolding size
-  found_plain Parsed.Broken h e = impossible (cc)
-  found_plain (Parsed.Number v next) h e =
+  found_plain None h e = impossible (cc)
+  found_plain (Some (v, next)) h e =
       let f = number-found s at v next h in
       record { literal = pos v; next = next; found = record { stand = f.stand; end = f.end; digits = f.small }; rest = e }
 
-  found-minus : get_or s at 0 ≡ minus → (p : Parsed) → number_at s (at + 1) ≡ p
+  found-minus : get_or s at 0 ≡ minus → (p : Option (ℕ × ℕ)) → number_at s (at + 1) ≡ p
       → on_number p broken_line (λ v next. cond (eqb v 0) broken_line (go (neg_ℤ (pos v)) next)) ≡ members ls end → Onward s at go (members ls end)
   unfolding size
-  found-minus m Parsed.Broken h e = impossible (cc)
-  found-minus m (Parsed.Number zero next) h e = impossible (cc)
-  found-minus m (Parsed.Number (suc v) next) h e =
+  found-minus m None h e = impossible (cc)
+  found-minus m (Some (zero, next)) h e = impossible (cc)
+  found-minus m (Some (suc v, next)) h e =
       let f = number-found s (at + 1) (suc v) next h in
       record {
         literal = negsuc v;
@@ -281,7 +281,7 @@ pub record ClauseFound (s : List ℕ) (at w : ℕ) (ms : List ℤ) (next : ℕ) 
   pub feed : get_or s (at + length (clause_bytes line)) 0 ≡ line_feed
   pub end : next ≡ at + length (clause_bytes line) + 1
 
-pub clause-found : (s : List ℕ) (at w mid k : ℕ) (ms : List ℤ) (next : ℕ) → number_at s at ≡ Parsed.Number w mid → members_from k s mid ≡ members ms next
+pub clause-found : (s : List ℕ) (at w mid k : ℕ) (ms : List ℤ) (next : ℕ) → number_at s at ≡ Some (w, mid) → members_from k s mid ≡ members ms next
     → ClauseFound s at w ms next
 unfolding clause_bytes
 clause-found s at w mid k ms next p q =
@@ -325,7 +325,7 @@ module _ (s : List ℕ) (at : ℕ) (c : ClauseLine) (h : ClauseHeld c) (e : stan
   unfolding clause_bytes
   literals-there = second-stands s at (number_text c.weight) bytes_of e
 
-  pub weight-read : number_at s at ≡ Parsed.Number c.weight behind-weight
+  pub weight-read : number_at s at ≡ Some (c.weight, behind-weight)
   unfolding clause_bytes
   weight-read =
       number-reads s at c.weight h.light (first-stands s at (number_text c.weight) bytes_of e)

@@ -1,4 +1,5 @@
 -- The comments before the header: of the form, they are passed over; passed over, they stand there as lines of the form.
+use Rattle.std.specs.Prelude.{Err}
 use Prim.Native.Nat.{ℕ, zero, suc, ◌+◌, ◌-◌, ◌<◌, ◌≤◌}
 use mathlib.Core.Path.{◌≡◌, refl, sym, ap, subst, ◌∙◌}
 use mathlib.Core.Bool.{Bool, true, false, cond}
@@ -7,7 +8,6 @@ use native.Mathlib.Omega.{arith}
 use borrow.Author.Tests.{eq-eqb, eqb-true, lt-ltb, le-ltb}
 use lib.Dec.{eqb}
 use lib.ListN.{length, get_or}
-use Rattle.rules.specs.declared.WcnfHead.{WcnfHead}
 use Rattle.rules.specs.Text.{bytes, line_feed}
 use Rattle.rules.specs.Reader.{stands}
 use Rattle.rules.specs.WcnfReader.{feed_from, header_at, header_from}
@@ -130,6 +130,6 @@ module _ (k : ℕ) (s : List ℕ) (at line : ℕ) where
   unfolding header_from bytes
   comment-passed e h = rw (e, lt-ltb (feed_from (length s - at) s at) (length s) h)
 
-  pub comment-unended : begins s at ≡ true → length s ≤ feed_from (length s - at) s at → header_from (suc k) s at line ≡ WcnfHead.Broken line
+  pub comment-unended : begins s at ≡ true → length s ≤ feed_from (length s - at) s at → header_from (suc k) s at line ≡ Err line
   unfolding header_from bytes
   comment-unended e h = rw (e, le-ltb (feed_from (length s - at) s at) (length s) h)

@@ -1,5 +1,6 @@
 -- Refusals exactly when. Lines that the text begins with are read in turn, so a clause with a fault is refused whatever follows it; and among the clauses
 -- of a text that is read there is a first with a fault, or none.
+use Rattle.std.specs.Prelude.{Some, Ok, Err}
 use Prim.Native.Nat.{ℕ, zero, suc, ◌+◌, ◌-◌, ◌*◌, ◌≤◌}
 use mathlib.Core.Path.{◌≡◌, refl, sym, ap, subst, ◌∙◌}
 use mathlib.Core.Logic.{◌⊎◌, inl, inr, ⊎_elim}
@@ -14,9 +15,7 @@ use Rattle.masks.proofs.Choice.{impossible, clash, not_so}
 use Rattle.rules.proofs.Judging.{refuse-fine}
 use Rattle.rules.specs.declared.Refusal.{Refusal}
 use Rattle.rules.specs.declared.Refusal.TheVariants.{TooManyVariables, BadTable, NoRoom, BadLiterals, BadText}
-use Rattle.rules.specs.declared.Judged.{Judged}
-use Rattle.rules.specs.declared.Judged.TheVariants.{Fine, Refused}
-use Rattle.rules.specs.Refusals.{refuse}
+use Rattle.rules.specs.Refusals.{Judged, refuse}
 use Rattle.literals.specs.Literal.{most_variables}
 use Rattle.rules.specs.Table.{row_words}
 use Rattle.rules.specs.WcnfReader.{bad_members, clauses_why, wcnf_read_why}
@@ -107,12 +106,12 @@ module _ (s : List ℕ) (cs : List (List ℕ)) (h : HeaderLine) (lines : List Cl
 -- ---- nothing else is said
 
 -- where the figures are refused, it is so whatever follows
-figures-refused : (most room : ℕ) (h : HeaderLine) (r : Refusal) (after : Judged) → figures_first most room h Fine ≡ Refused r
-    → figures_first most room h after ≡ Refused r
+figures-refused : (most room : ℕ) (h : HeaderLine) (r : Refusal) (after : Judged) → figures_first most room h (Ok tt) ≡ Err r
+    → figures_first most room h after ≡ Err r
 figures-refused most room h r after e = go (ltb most_variables h.variables) (ltb most h.clauses) (ltb room (row_words * h.clauses)) e
   where
-    go : (a b c : Bool) → refuse a TooManyVariables (refuse b BadTable (refuse c NoRoom Fine)) ≡ Refused r
-        → refuse a TooManyVariables (refuse b BadTable (refuse c NoRoom after)) ≡ Refused r
+    go : (a b c : Bool) → refuse a TooManyVariables (refuse b BadTable (refuse c NoRoom (Ok tt))) ≡ Err r
+        → refuse a TooManyVariables (refuse b BadTable (refuse c NoRoom after)) ≡ Err r
     go true b c q = q
     go false true c q = q
     go false false true q = q
@@ -120,7 +119,7 @@ figures-refused most room h r after e = go (ltb most_variables h.variables) (ltb
 
 -- ---- a clause without a fault, by its members and by the tests
 
-few-variables : (most room : ℕ) (h : HeaderLine) → figures_first most room h Fine ≡ Fine → h.variables ≤ most_variables
+few-variables : (most room : ℕ) (h : HeaderLine) → figures_first most room h (Ok tt) ≡ Ok tt → h.variables ≤ most_variables
 few-variables most room h e = ltb-false most_variables h.variables (refuse-fine (ltb most_variables h.variables) TooManyVariables _ e).0
 
 not-bad : (h : HeaderLine) (c : ClauseLine) → (Above h.variables (numbers_of c.literals) → ⊥) → (BothWays (numbers_of c.literals) → ⊥)
@@ -140,14 +139,14 @@ is-faultless h c few p =
     }
 
 none-faulted : (h : HeaderLine) (lines : List ClauseLine) (i : ℕ) → Each (Faultless h) lines
-    → faults_first i h.variables (clauses_said lines) Fine ≡ Fine
+    → faults_first i h.variables (clauses_said lines) (Ok tt) ≡ Ok tt
 unfolding faults_first clauses_said
 none-faulted h [] i each = refl
 none-faulted h (c ∷ cs) i each =
     rw (not-bad h c each.0.none_above each.0.one_way) (none-faulted h cs (suc i) each.1)
 
 none-due : (most room : ℕ) (h : HeaderLine) (lines : List ClauseLine) → NoneDue most room h lines
-    → figures_first most room h (faults_first 0 h.variables (clauses_said lines) Fine) ≡ Fine
+    → figures_first most room h (faults_first 0 h.variables (clauses_said lines) (Ok tt)) ≡ Ok tt
 none-due most room h lines n = ap (figures_first most room h) (none-faulted h lines 0 n.clauses) ∙ n.figures
 
 module _ (s : List ℕ) (most room : ℕ) (cs : List (List ℕ)) (h : HeaderLine) where
@@ -169,7 +168,7 @@ module _ (s : List ℕ) (most room : ℕ) (cs : List (List ℕ)) (h : HeaderLine
         w.0,
         w.1
             ∙ ap (figures_first most room h) (faults-behind before c 0 h.variables w.0)
-            ∙ (turn-free most room h (clauses_said before) Fine _ (none-due most room h before none)).1
+            ∙ (turn-free most room h (clauses_said before) (Ok tt) _ (none-due most room h before none)).1
             ∙ ap (λ (k : ℕ). refuse (bad_members h.variables (numbers_of c.literals)) (BadLiterals k) w.0) here,
       )
 
@@ -178,7 +177,7 @@ module _ (s : List ℕ) (most room : ℕ) (cs : List (List ℕ)) (h : HeaderLine
   made_up before = before ++ blank (h.clauses - length before)
 
   at-line : (before : List ClauseLine) → Begins s cs h before → NoneDue most room h before → FirstBroken s (length cs + (length before + 2))
-      → wcnf_read_why most s room ≡ Refused (BadText (length cs + (length before + 2)))
+      → wcnf_read_why most s room ≡ Err (BadText (length cs + (length before + 2)))
   unfolding made_up form_text
   at-line before b none broken =
       let w = begins-passed s cs h before b in
@@ -199,8 +198,8 @@ module _ (s : List ℕ) (most room : ℕ) (cs : List (List ℕ)) (h : HeaderLine
       let taken : take j lines ≡ before = take_at before (blank rest) j refl in
       cut-judged s most room f held j alike broken
       ∙ ap (λ (x : List ClauseLine). figures_first most room h
-      (faults_first 0 h.variables (clauses_said x) (Refused (BadText (length cs + (j + 2)))))) taken
-      ∙ (turn-free most room h (clauses_said before) Fine _ (none-due most room h before none)).1
+      (faults_first 0 h.variables (clauses_said x) (Err (BadText (length cs + (j + 2)))))) taken
+      ∙ (turn-free most room h (clauses_said before) (Ok tt) _ (none-due most room h before none)).1
 
 nothing-else : (s : List ℕ) (most room : ℕ) (why : Judged) → Given s most room why → wcnf_read_why most s room ≡ why
 nothing-else s most room why (no_header cs each alike b) = headless-judged s most room cs each alike b
@@ -245,27 +244,27 @@ Some s most room = (why : Judged) × Given s most room why
 
 module _ (s : List ℕ) (most room : ℕ) (cs : List (List ℕ)) (h : HeaderLine) (lines : List ClauseLine) (b : Begins s cs h lines)
     (end : NoneDue most room h lines → Some s most room) where
-  by-fault : figures_first most room h Fine ≡ Fine → FirstFault h lines → Some s most room
+  by-fault : figures_first most room h (Ok tt) ≡ Ok tt → FirstFault h lines → Some s most room
   by-fault free (faultless each) = end (record { figures = free; clauses = each })
   by-fault free (badly before c behind is each bad) =
       let front = begins-front s cs h (before ++ (c ∷ [])) behind (subst (Begins s cs h) is b) in
       let none : NoneDue most room h before = record { figures = free; clauses = each } in
-      (Refused (BadLiterals (length before)), bad_clause cs h before c front none (bad-found h.variables (numbers_of c.literals) bad))
+      (Err (BadLiterals (length before)), bad_clause cs h before c front none (bad-found h.variables (numbers_of c.literals) bad))
 
-  by-figures : (j : Judged) → figures_first most room h Fine ≡ j → Some s most room
-  by-figures Fine e = by-fault e (first-fault h (few-variables most room h e) lines)
-  by-figures (Refused r) e = (Refused r, figures cs h (begins-front s cs h [] lines b) r e)
+  by-figures : (j : Judged) → figures_first most room h (Ok tt) ≡ j → Some s most room
+  by-figures (Ok _) e = by-fault e (first-fault h (few-variables most room h e) lines)
+  by-figures (Err r) e = (Err r, figures cs h (begins-front s cs h [] lines b) r e)
 
 some-given : (s : List ℕ) (most room : ℕ) → Shape s → Some s most room
 unfolding form_text
-some-given s most room (headless cs each alike broken) = (Refused (BadText (length cs + 1)), no_header cs each alike broken)
+some-given s most room (headless cs each alike broken) = (Err (BadText (length cs + 1)), no_header cs each alike broken)
 some-given s most room (whole f held is) =
     let cs = f.comments in
     let h = f.header in
     let w = whole-passed s f held is in
     let long : length f.lines ≤ h.clauses = omega (arith, held.whole) in
     let b = passed-begins s cs h f.lines held.comments held.header held.lines long w.0 (w.1 (length f.lines)) in
-    by-figures s most room cs h f.lines b (λ none. (Fine, fine f held is none)) (figures_first most room h Fine) refl
+    by-figures s most room cs h f.lines b (λ none. (Ok tt, fine f held is none)) (figures_first most room h (Ok tt)) refl
 some-given s most room (cut f held j few alike broken) =
     let cs = f.comments in
     let h = f.header in
@@ -283,8 +282,8 @@ some-given s most room (cut f held j few alike broken) =
     by-figures s most room cs h front b
     (λ none.
     let own = subst (λ (n : ℕ). FirstBroken s (length cs + (n + 2))) count broken in
-    (Refused (BadText (length cs + (length front + 2))), no_clause cs h front b none own))
-    (figures_first most room h Fine) refl
+    (Err (BadText (length cs + (length front + 2))), no_clause cs h front b none own))
+    (figures_first most room h (Ok tt)) refl
 
 pub exactly : Exactly wcnf_read_why
 exactly =

@@ -1,5 +1,6 @@
 -- Spaces before a number. A gap that stands there, with no space behind it, is the run that is counted; and a run that is counted stands there. So a number
 -- behind a gap is read, and a number that is read so stands there behind a gap.
+use Rattle.std.specs.Prelude.{Some, None}
 use Prim.Native.Nat.{ℕ, zero, suc, ◌+◌, ◌^◌, ◌<◌, ◌≤◌}
 use mathlib.Core.Path.{◌≡◌, refl, sym, ap, ◌∙◌}
 use mathlib.Core.Bool.{Bool, true, false, cond}
@@ -9,7 +10,6 @@ use borrow.Author.Tests.{eq-eqb, ne_eqb, eqb-true}
 use lib.Dec.{eqb, eqb-suc-zero}
 use lib.ListN.{length, get_or, length-append}
 use Rattle.masks.proofs.Choice.{impossible}
-use Rattle.rules.specs.declared.Parsed.{Parsed}
 use Rattle.rules.specs.Text.{number_text, space, most_digits}
 use Rattle.rules.specs.Reader.{stands, is_digit, number_at}
 use Rattle.rules.specs.WcnfReader.{space_run, parted_at}
@@ -89,7 +89,7 @@ run-stands (suc k) s at n e = go (eqb (get_or s at 0) space) refl (λ m q. run-s
 
 pub parted-reads : (s : List ℕ) (at k v : ℕ) → v < 10 ^ most_digits → stands s at (gap k ++ number_text v) ≡ true
     → is_digit (get_or s (at + length (gap k ++ number_text v)) 0) ≡ false
-    → parted_at s at ≡ Parsed.Number v (at + length (gap k ++ number_text v))
+    → parted_at s at ≡ Some (v, at + length (gap k ++ number_text v))
 unfolding parted_at
 parted-reads s at k v small e f =
     let near : at + length (gap k) ≡ at + suc k = omega (arith, gap-long k) in
@@ -106,7 +106,7 @@ pub record PartedFound (s : List ℕ) (at v next : ℕ) : Type 0 where
   pub small : v < 10 ^ most_digits
 
 -- a number found behind a run
-pub found-behind : (s : List ℕ) (at k v next : ℕ) → space_run s at (length s) ≡ suc k → number_at s (at + suc k) ≡ Parsed.Number v next
+pub found-behind : (s : List ℕ) (at k v next : ℕ) → space_run s at (length s) ≡ suc k → number_at s (at + suc k) ≡ Some (v, next)
     → PartedFound s at v next
 found-behind s at k v next r e =
     let f = number-found s (at + suc k) v next e in
@@ -119,10 +119,10 @@ found-behind s at k v next r e =
       small = f.small;
     }
 
-pub parted-found : (s : List ℕ) (at v next : ℕ) → parted_at s at ≡ Parsed.Number v next → PartedFound s at v next
+pub parted-found : (s : List ℕ) (at v next : ℕ) → parted_at s at ≡ Some (v, next) → PartedFound s at v next
 unfolding parted_at
 parted-found s at v next e = go (space_run s at (length s)) refl
   where
     go : (n : ℕ) → space_run s at (length s) ≡ n → PartedFound s at v next
-    go zero r = let q : Parsed.Broken ≡ Parsed.Number v next = rw r at e in impossible (cc)
+    go zero r = let q : None ≡ Some (v, next) = rw r at e in impossible (cc)
     go (suc k) r = found-behind s at k v next r (rw (r, eqb-suc-zero k) at e)

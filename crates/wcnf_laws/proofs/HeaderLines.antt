@@ -1,4 +1,5 @@
 -- The header's line: of the form, it is read; read, it stands there as a line of the form.
+use Rattle.std.specs.Prelude.{Option, Some, None, Result, Ok, Err}
 use Prim.Native.Nat.{ℕ, zero, suc, ◌+◌}
 use mathlib.Core.Path.{◌≡◌, refl, sym, ap, ◌∙◌}
 use mathlib.Core.Bool.{Bool, true, false, cond, ◌&&◌}
@@ -8,11 +9,10 @@ use borrow.Author.Tests.{eq-eqb, eqb-true}
 use lib.Dec.{eqb}
 use lib.ListN.{length, get_or, length-append}
 use Rattle.masks.proofs.Choice.{impossible, and_left, and_right}
-use Rattle.rules.specs.declared.Parsed.{Parsed}
 use Rattle.rules.specs.declared.WcnfHead.{WcnfHead}
 use Rattle.rules.specs.Text.{bytes, number_text, space, line_feed}
 use Rattle.rules.specs.Reader.{stands, ended, on_number}
-use Rattle.rules.specs.WcnfReader.{space_run, parted_at, header_at}
+use Rattle.rules.specs.WcnfReader.{space_run, parted_at, header_at, header_says}
 use Rattle.text_laws.specs.Lines.{NoFeed}
 use Rattle.text_laws.proofs.Cuts.{no-feed-append, number-no-feed}
 use Rattle.text_laws.proofs.Stands.{first-stands, second-stands, both-stand, byte-stands, cons-stands, front-byte, behind-byte}
@@ -115,8 +115,8 @@ header-no-feed h = (
 
 -- from what its parts are read as
 header_is : (s : List ℕ) (at line a n b m c t d : ℕ) → stands s at (p_code ∷ space ∷ []) ≡ true → space_run s (at + 1) (length s) ≡ suc a
-    → stands s (at + 1 + suc a) wcnf_name ≡ true → parted_at s (at + 1 + suc a + 4) ≡ Parsed.Number n b → parted_at s b ≡ Parsed.Number m c
-    → parted_at s c ≡ Parsed.Number t d → get_or s d 0 ≡ line_feed → header_at s at line ≡ WcnfHead.Figures n m t (d + 1) line
+    → stands s (at + 1 + suc a) wcnf_name ≡ true → parted_at s (at + 1 + suc a + 4) ≡ Some (n, b) → parted_at s b ≡ Some (m, c)
+    → parted_at s c ≡ Some (t, d) → get_or s d 0 ≡ line_feed → header_at s at line ≡ Ok (header_says n m t (d + 1) line)
 unfolding header_at bytes
 header_is s at line a n b m c t d p run name r1 r2 r3 feed =
     rw (run, p, name) (rw r1 (rw r2 (rw r3 (rw (eq-eqb (get_or s d 0) line_feed feed)))))
@@ -134,7 +134,7 @@ module _ (s : List ℕ) (at line : ℕ) (h : HeaderLine) (held : HeaderHeld h) (
   e3 : stands s (variables_at at h) (variables_piece h) ≡ true
   e3 = second-stands s (name_at at h) wcnf_name (variables_piece h) e2
 
-  pub header_read : header_at s at line ≡ WcnfHead.Figures h.variables h.clauses h.top (at + length (header_bytes h) + 1) line
+  pub header_read : header_at s at line ≡ Ok (header_says h.variables h.clauses h.top (at + length (header_bytes h) + 1) line)
   header_read =
       let front = header-front s at h e in
       let blank : get_or s (at + 1) 0 ≡ space = gap-front s (at + 1) h.name-gap (wcnf_name ++ variables_piece h) e1 in
@@ -154,7 +154,7 @@ module _ (s : List ℕ) (at line : ℕ) (h : HeaderLine) (held : HeaderHeld h) (
       (space-no-digit _ (gap-front s (top_at at h) h.top-gap (number_text h.top) f2.1)))
       (parted-reads s (top_at at h) h.top-gap h.top held.top_digits f2.1 (end-no-digit s (top_at at h + length (top_piece h)) feed2))
       feed2
-      ∙ ap (λ (p : ℕ). WcnfHead.Figures h.variables h.clauses h.top (p + 1) line) (sym end)
+      ∙ ap (λ (p : ℕ). Ok (header_says h.variables h.clauses h.top (p + 1) line)) (sym end)
 
 -- ---- found
 
@@ -208,10 +208,10 @@ module _ (s : List ℕ) (at line N M T next l : ℕ) where
 
   module _ (a : ℕ) (p : stands s at (p_code ∷ space ∷ []) ≡ true) (run : space_run s (at + 1) (length s) ≡ suc a)
       (name : stands s (at + 1 + suc a) wcnf_name ≡ true) where
-    by-feed : (n b m c t d : ℕ) → parted_at s (at + 1 + suc a + 4) ≡ Parsed.Number n b → parted_at s b ≡ Parsed.Number m c → parted_at s c ≡ Parsed.Number t d
+    by-feed : (n b m c t d : ℕ) → parted_at s (at + 1 + suc a + 4) ≡ Some (n, b) → parted_at s b ≡ Some (m, c) → parted_at s c ≡ Some (t, d)
         → (x : Bool) → eqb (get_or s d 0) line_feed ≡ x
-        → on_number (cond x (Parsed.Number t (d + 1)) Parsed.Broken) (WcnfHead.Broken line) (λ top end. WcnfHead.Figures n m top end line)
-        ≡ WcnfHead.Figures N M T next l
+        → on_number (cond x (Some (t, d + 1)) None) (Err line) (λ top end. Ok (header_says n m top end line))
+        ≡ Ok (header_says N M T next l)
         → Found
     by-feed n b m c t d r1 r2 r3 false f e = impossible (cc)
     by-feed n b m c t d r1 r2 r3 true f e =
@@ -224,33 +224,33 @@ module _ (s : List ℕ) (at line N M T next l : ℕ) where
         (eqb-true (get_or s d 0) line_feed f) in
         (rw (← nn, ← mm, ← tt, ← dd) found, sym ll)
 
-    by-top : (n b m c : ℕ) → parted_at s (at + 1 + suc a + 4) ≡ Parsed.Number n b → parted_at s b ≡ Parsed.Number m c → (x : Parsed) → parted_at s c ≡ x
-        → on_number (ended s x) (WcnfHead.Broken line) (λ top end. WcnfHead.Figures n m top end line) ≡ WcnfHead.Figures N M T next l → Found
-    by-top n b m c r1 r2 Parsed.Broken r3 e = impossible (cc)
-    by-top n b m c r1 r2 (Parsed.Number t d) r3 e = by-feed n b m c t d r1 r2 r3 (eqb (get_or s d 0) line_feed) refl e
+    by-top : (n b m c : ℕ) → parted_at s (at + 1 + suc a + 4) ≡ Some (n, b) → parted_at s b ≡ Some (m, c) → (x : Option (ℕ × ℕ)) → parted_at s c ≡ x
+        → on_number (ended s x) (Err line) (λ top end. Ok (header_says n m top end line)) ≡ Ok (header_says N M T next l) → Found
+    by-top n b m c r1 r2 None r3 e = impossible (cc)
+    by-top n b m c r1 r2 (Some (t, d)) r3 e = by-feed n b m c t d r1 r2 r3 (eqb (get_or s d 0) line_feed) refl e
 
-    by-clauses : (n b : ℕ) → parted_at s (at + 1 + suc a + 4) ≡ Parsed.Number n b → (x : Parsed) → parted_at s b ≡ x
-        → on_number x (WcnfHead.Broken line)
-        (λ m c. on_number (ended s (parted_at s c)) (WcnfHead.Broken line) (λ top end. WcnfHead.Figures n m top end line)) ≡ WcnfHead.Figures N M T next l
+    by-clauses : (n b : ℕ) → parted_at s (at + 1 + suc a + 4) ≡ Some (n, b) → (x : Option (ℕ × ℕ)) → parted_at s b ≡ x
+        → on_number x (Err line)
+        (λ m c. on_number (ended s (parted_at s c)) (Err line) (λ top end. Ok (header_says n m top end line))) ≡ Ok (header_says N M T next l)
         → Found
-    by-clauses n b r1 Parsed.Broken r2 e = impossible (cc)
-    by-clauses n b r1 (Parsed.Number m c) r2 e = by-top n b m c r1 r2 (parted_at s c) refl e
+    by-clauses n b r1 None r2 e = impossible (cc)
+    by-clauses n b r1 (Some (m, c)) r2 e = by-top n b m c r1 r2 (parted_at s c) refl e
 
-    by-variables : (x : Parsed) → parted_at s (at + 1 + suc a + 4) ≡ x
-        → on_number x (WcnfHead.Broken line) (λ n b. on_number (parted_at s b) (WcnfHead.Broken line)
-        (λ m c. on_number (ended s (parted_at s c)) (WcnfHead.Broken line) (λ top end. WcnfHead.Figures n m top end line))) ≡ WcnfHead.Figures N M T next l
+    by-variables : (x : Option (ℕ × ℕ)) → parted_at s (at + 1 + suc a + 4) ≡ x
+        → on_number x (Err line) (λ n b. on_number (parted_at s b) (Err line)
+        (λ m c. on_number (ended s (parted_at s c)) (Err line) (λ top end. Ok (header_says n m top end line)))) ≡ Ok (header_says N M T next l)
         → Found
-    by-variables Parsed.Broken r1 e = impossible (cc)
-    by-variables (Parsed.Number n b) r1 e = by-clauses n b r1 (parted_at s b) refl e
+    by-variables None r1 e = impossible (cc)
+    by-variables (Some (n, b)) r1 e = by-clauses n b r1 (parted_at s b) refl e
 
   -- the figures behind the name, which ends at a place
-  abbrev figures_from : ℕ → WcnfHead
+  abbrev figures_from : ℕ → Result WcnfHead ℕ
   figures_from q =
-      on_number (parted_at s q) (WcnfHead.Broken line) (λ n b. on_number (parted_at s b) (WcnfHead.Broken line)
-      (λ m c. on_number (ended s (parted_at s c)) (WcnfHead.Broken line) (λ top end. WcnfHead.Figures n m top end line)))
+      on_number (parted_at s q) (Err line) (λ n b. on_number (parted_at s b) (Err line)
+      (λ m c. on_number (ended s (parted_at s c)) (Err line) (λ top end. Ok (header_says n m top end line))))
 
   by-run : (k : ℕ) → space_run s (at + 1) (length s) ≡ k → (x : Bool) → (stands s at (p_code ∷ space ∷ []) && stands s (at + 1 + k) wcnf_name) ≡ x
-      → cond x (figures_from (at + 1 + k + 4)) (WcnfHead.Broken line) ≡ WcnfHead.Figures N M T next l → Found
+      → cond x (figures_from (at + 1 + k + 4)) (Err line) ≡ Ok (header_says N M T next l) → Found
   by-run k run false t e = impossible (cc)
   by-run zero run true t e =
       let p = and_left (stands s at (p_code ∷ space ∷ [])) (stands s (at + 1 + 0) wcnf_name) t in
@@ -263,38 +263,38 @@ module _ (s : List ℕ) (at line N M T next l : ℕ) where
       by-variables a (and_left (stands s at (p_code ∷ space ∷ [])) (stands s (at + 1 + suc a) wcnf_name) t) run
       (and_right (stands s at (p_code ∷ space ∷ [])) (stands s (at + 1 + suc a) wcnf_name) t) (parted_at s (at + 1 + suc a + 4)) refl e
 
-  pub header-found : header_at s at line ≡ WcnfHead.Figures N M T next l → Found
+  pub header-found : header_at s at line ≡ Ok (header_says N M T next l) → Found
   unfolding header_at bytes
   header-found e = by-run (space_run s (at + 1) (length s)) refl _ refl e
 
 -- a header that is not read is said to break its own line
 module _ (s : List ℕ) (line b : ℕ) where
-  own-top : (n m : ℕ) (p : Parsed) → on_number (ended s p) (WcnfHead.Broken line) (λ top end. WcnfHead.Figures n m top end line) ≡ WcnfHead.Broken b → b ≡ line
-  own-top n m Parsed.Broken e = cc
-  own-top n m (Parsed.Number t d) e = go (eqb (get_or s d 0) line_feed) e
+  own-top : (n m : ℕ) (p : Option (ℕ × ℕ)) → on_number (ended s p) (Err line) (λ top end. Ok (header_says n m top end line)) ≡ Err b → b ≡ line
+  own-top n m None e = cc
+  own-top n m (Some (t, d)) e = go (eqb (get_or s d 0) line_feed) e
     where
-      go : (x : Bool) → on_number (cond x (Parsed.Number t (d + 1)) Parsed.Broken) (WcnfHead.Broken line) (λ top end. WcnfHead.Figures n m top end line)
-          ≡ WcnfHead.Broken b → b ≡ line
+      go : (x : Bool) → on_number (cond x (Some (t, d + 1)) None) (Err line) (λ top end. Ok (header_says n m top end line))
+          ≡ Err b → b ≡ line
       go true q = impossible (cc)
       go false q = cc
 
-  own-clauses : (n : ℕ) (p : Parsed) → on_number p (WcnfHead.Broken line)
-      (λ m c. on_number (ended s (parted_at s c)) (WcnfHead.Broken line) (λ top end. WcnfHead.Figures n m top end line)) ≡ WcnfHead.Broken b → b ≡ line
-  own-clauses n Parsed.Broken e = cc
-  own-clauses n (Parsed.Number m c) e = own-top n m (parted_at s c) e
+  own-clauses : (n : ℕ) (p : Option (ℕ × ℕ)) → on_number p (Err line)
+      (λ m c. on_number (ended s (parted_at s c)) (Err line) (λ top end. Ok (header_says n m top end line))) ≡ Err b → b ≡ line
+  own-clauses n None e = cc
+  own-clauses n (Some (m, c)) e = own-top n m (parted_at s c) e
 
-  own-variables : (p : Parsed) → on_number p (WcnfHead.Broken line) (λ n q. on_number (parted_at s q) (WcnfHead.Broken line)
-      (λ m c. on_number (ended s (parted_at s c)) (WcnfHead.Broken line) (λ top end. WcnfHead.Figures n m top end line))) ≡ WcnfHead.Broken b → b ≡ line
-  own-variables Parsed.Broken e = cc
-  own-variables (Parsed.Number n q) e = own-clauses n (parted_at s q) e
+  own-variables : (p : Option (ℕ × ℕ)) → on_number p (Err line) (λ n q. on_number (parted_at s q) (Err line)
+      (λ m c. on_number (ended s (parted_at s c)) (Err line) (λ top end. Ok (header_says n m top end line)))) ≡ Err b → b ≡ line
+  own-variables None e = cc
+  own-variables (Some (n, q)) e = own-clauses n (parted_at s q) e
 
-  pub own_line : (at : ℕ) → header_at s at line ≡ WcnfHead.Broken b → b ≡ line
+  pub own_line : (at : ℕ) → header_at s at line ≡ Err b → b ≡ line
   unfolding header_at bytes
   own_line at e = go (stands s at (p_code ∷ space ∷ []) && stands s (at + 1 + space_run s (at + 1) (length s)) wcnf_name) e
     where
-      go : (x : Bool) → cond x (on_number (parted_at s (at + 1 + space_run s (at + 1) (length s) + 4)) (WcnfHead.Broken line) (λ n q.
-          on_number (parted_at s q) (WcnfHead.Broken line) (λ m c.
-          on_number (ended s (parted_at s c)) (WcnfHead.Broken line) (λ top end. WcnfHead.Figures n m top end line)))) (WcnfHead.Broken line) ≡ WcnfHead.Broken b
+      go : (x : Bool) → cond x (on_number (parted_at s (at + 1 + space_run s (at + 1) (length s) + 4)) (Err line) (λ n q.
+          on_number (parted_at s q) (Err line) (λ m c.
+          on_number (ended s (parted_at s c)) (Err line) (λ top end. Ok (header_says n m top end line))))) (Err line) ≡ Err b
           → b ≡ line
       go true q = own-variables (parted_at s (at + 1 + space_run s (at + 1) (length s) + 4)) q
       go false q = cc

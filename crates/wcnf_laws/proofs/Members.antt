@@ -1,4 +1,5 @@
 -- The literals of a clause depend on its members alone, and so does the table on top and on the weights and members of the clauses.
+use Rattle.std.specs.Prelude.{Option, Some, None, Ok}
 use Prim.Native.Nat.{ℕ, zero, suc}
 use mathlib.Core.Path.{◌≡◌, refl, sym, ap, ap₂, ◌∙◌}
 use mathlib.Core.List.{List, [], ◌∷◌, ◌++◌, Memᴰ}
@@ -8,8 +9,6 @@ use Rattle.literals.specs.Literal.{lits_of}
 use Rattle.literals.specs.Lits.{together}
 use Rattle.literals.proofs.TwoMasks.{none-together, together-comm, together-self, together-assoc}
 use lib.ListN.{length, drop}
-use Rattle.rules.specs.declared.Parsed.{Parsed}
-use Rattle.rules.specs.declared.Judged.TheVariants.{Fine}
 use Rattle.rules.specs.Table.{row_words_of}
 use Rattle.rules.specs.Reader.{number_at, on_number}
 use Rattle.rules.specs.WcnfReader.{MembersRead, members, broken_line, on_members, lits_of_members, members_from, clause_row, clauses_words}
@@ -65,12 +64,12 @@ module _ (top : ℕ) (s : List ℕ) (m : ℕ) (ih : (at : ℕ) → clauses_words
   of_members w (members ls at) = ap (λ (more : List ℕ). row_words_of (clause_row top w (lits_of_members ls)) ++ more) (ih at)
   of_members w broken_line = refl
 
-  of_number : (p : Parsed)
+  of_number : (p : Option (ℕ × ℕ))
       → on_number p [] (λ w at. on_members (members_from (length s) s at) [] (λ ls at. row_words_of (clause_row top w (lits_of_members ls)) ++ clauses_words m top s at))
       ≡ words_of_clauses top (on_number p [] (λ w at. on_members (members_from (length s) s at) [] (λ ls at. (w, ls) ∷ clauses_at m s at)))
   unfolding words_of_clauses
-  of_number (Parsed.Number w at) = of_members w (members_from (length s) s at)
-  of_number Parsed.Broken = refl
+  of_number (Some (w, at)) = of_members w (members_from (length s) s at)
+  of_number None = refl
 
 -- the words of a text are those of its clauses
 pub words-of-clauses : (m top : ℕ) (s : List ℕ) (at : ℕ) → clauses_words m top s at ≡ words_of_clauses top (clauses_at m s at)
@@ -89,11 +88,11 @@ module _ (s t : List ℕ) (same : SaysSame s t) where
       ∙ sym (words-of-clauses same.clauses same.top t same.next-there))
 
   -- where both are accepted, they are answered alike and leave the same words
-  pub same_answer : (most room : ℕ) → wcnf_read_why most s room ≡ Fine → wcnf_read_why most t room ≡ Fine → wcnf_read most s room ≡ wcnf_read most t room
+  pub same_answer : (most room : ℕ) → wcnf_read_why most s room ≡ Ok tt → wcnf_read_why most t room ≡ Ok tt → wcnf_read most s room ≡ wcnf_read most t room
   unfolding wcnf_read
   same_answer most room p q = rw (p, q, same.here, same.there)
 
-  pub same-table : (most : ℕ) (lent : List ℕ) → wcnf_read_why most s (length lent) ≡ Fine → wcnf_read_why most t (length lent) ≡ Fine
+  pub same-table : (most : ℕ) (lent : List ℕ) → wcnf_read_why most s (length lent) ≡ Ok tt → wcnf_read_why most t (length lent) ≡ Ok tt
       → wcnf_table most s lent ≡ wcnf_table most t lent
   unfolding wcnf_table
   same-table most lent p q =

@@ -1,5 +1,6 @@
 -- The reader's judgement is that of the text's shape: comments and header are read where they are of the form, the figures are judged, then the clauses one
 -- by one; and the place of a refusal 20 is the first line that breaks the form.
+use Rattle.std.specs.Prelude.{Ok, Err}
 use Prim.Native.Nat.{ℕ, zero, suc, ◌+◌, ◌*◌, ◌<◌, ◌≤◌}
 use mathlib.Core.Path.{◌≡◌, refl, sym, ap, subst, ◌∙◌}
 use mathlib.Core.Logic.{⊎_elim}
@@ -11,16 +12,13 @@ use lib.IntN.{ℤ}
 use lib.ListN.{length, drop, take}
 use Rattle.masks.proofs.Choice.{impossible, not_so, lt-or-le}
 use Rattle.literals.specs.Literal.{most_variables}
-use Rattle.rules.specs.declared.WcnfHead.{WcnfHead}
 use Rattle.rules.specs.declared.Refusal.TheVariants.{TooManyVariables, BadTable, NoRoom, BadLiterals, BadText}
-use Rattle.rules.specs.declared.Judged.{Judged}
-use Rattle.rules.specs.declared.Judged.TheVariants.{Fine, Refused}
-use Rattle.rules.specs.Refusals.{refuse}
+use Rattle.rules.specs.Refusals.{Judged, refuse}
 use Rattle.rules.proofs.Judging.{refuse-fine}
 use Rattle.rules.specs.Table.{row_words}
 use Rattle.rules.specs.Text.{line_feed}
 use Rattle.rules.specs.Reader.{stands}
-use Rattle.rules.specs.WcnfReader.{bad_members, header_from, header_of, clauses_why, wcnf_read_why}
+use Rattle.rules.specs.WcnfReader.{bad_members, header_from, header_of, clauses_why, wcnf_read_why, header_says}
 use Rattle.text_laws.specs.Lines.{first_lines, NoFeed}
 use Rattle.text_laws.proofs.Cuts.{fewer-lines}
 use Rattle.wcnf_laws.specs.Form.{HeaderLine, header_bytes, comment_bytes, Form, lines_text, under_comments, form_text}
@@ -52,7 +50,7 @@ pub record Passed (s : List ℕ) (at : ℕ) (cs : List (List ℕ)) (h : HeaderLi
   pub next : ℕ
   pub inside : next ≤ length s
   pub few : at + length cs < next
-  pub reads : (k line : ℕ) → length cs < k → header_from k s at line ≡ WcnfHead.Figures h.variables h.clauses h.top next (line + length cs)
+  pub reads : (k line : ℕ) → length cs < k → header_from k s at line ≡ Ok (header_says h.variables h.clauses h.top next (line + length cs))
   pub down : (n : ℕ) (rest : List ℕ) → first_lines (under cs (suc n)) (drop at s) ≡ first_lines (under cs (suc n)) (form_of cs h rest)
       → first_lines n (drop next s) ≡ first_lines n rest
   pub up : (n : ℕ) (rest : List ℕ) → first_lines n (drop next s) ≡ first_lines n rest
@@ -77,11 +75,11 @@ passed [] h s at rest each held e =
     }
   where
     reads : (k line : ℕ) → 0 < k → Here s at (header_bytes h) (at + length (header_bytes h) + 1)
-        → header_from k s at line ≡ WcnfHead.Figures h.variables h.clauses h.top (at + length (header_bytes h) + 1) (line + 0)
+        → header_from k s at line ≡ Ok (header_says h.variables h.clauses h.top (at + length (header_bytes h) + 1) (line + 0))
     reads zero line l a = absurd (omega arith)
     reads (suc k) line l a =
         no-comment k s at line (no-c s at h a.stand) ∙ header_read s at line h held a.stand a.feed
-        ∙ ap (WcnfHead.Figures h.variables h.clauses h.top (at + length (header_bytes h) + 1)) (omega arith)
+        ∙ ap (λ line. Ok (header_says h.variables h.clauses h.top (at + length (header_bytes h) + 1) line)) (omega arith)
 passed (c ∷ cs) h s at rest each held e =
     let free = each.0 in
     let next = at + length (comment_bytes c) + 1 in
@@ -104,11 +102,11 @@ passed (c ∷ cs) h s at rest each held e =
 
     reads : (k line : ℕ) → suc (length cs) < k → Here s at (comment_bytes c) (at + length (comment_bytes c) + 1)
         → (p : Passed s (at + length (comment_bytes c) + 1) cs h)
-        → header_from k s at line ≡ WcnfHead.Figures h.variables h.clauses h.top p.next (line + suc (length cs))
+        → header_from k s at line ≡ Ok (header_says h.variables h.clauses h.top p.next (line + suc (length cs)))
     reads zero line l a p = absurd (omega arith)
     reads (suc k) line l a p =
         comment-read k s at line c each.0 a.stand a.feed ∙ p.reads k (line + 1) (omega arith)
-        ∙ ap (WcnfHead.Figures h.variables h.clauses h.top p.next) (omega arith)
+        ∙ ap (λ line. Ok (header_says h.variables h.clauses h.top p.next line)) (omega arith)
 
 -- n lines more that are alike are so behind the header
 lines-under : (cs : List (List ℕ)) (n : ℕ) → length cs + (n + 1) ≡ under cs (suc n)
@@ -132,7 +130,7 @@ module _ (s : List ℕ) (cs : List (List ℕ)) (h : HeaderLine) (n : ℕ) (rest 
 -- ---- a text of the form
 
 pub headed : (s : List ℕ) (cs : List (List ℕ)) (h : HeaderLine) → (p : Passed s 0 cs h)
-    → header_of s ≡ WcnfHead.Figures h.variables h.clauses h.top p.next (1 + length cs)
+    → header_of s ≡ Ok (header_says h.variables h.clauses h.top p.next (1 + length cs))
 unfolding header_of
 headed s cs h p = p.reads (suc (length s)) 1 (omega (arith, p.few, p.inside))
 
@@ -153,7 +151,7 @@ whole-passed s f held is =
     (p, λ n. p.down n rest (ap (first_lines (under cs (suc n))) is))
 
 pub whole-judged : (s : List ℕ) (most room : ℕ) (f : Form) → Held f → s ≡ form_text f
-    → wcnf_read_why most s room ≡ figures_first most room f.header (faults_first 0 f.header.variables (clauses_said f.lines) Fine)
+    → wcnf_read_why most s room ≡ figures_first most room f.header (faults_first 0 f.header.variables (clauses_said f.lines) (Ok tt))
 whole-judged s most room f held is =
     let cs = f.comments in
     let h = f.header in
@@ -167,16 +165,16 @@ whole-judged s most room f held is =
 
 headless-reads : (cs : List (List ℕ)) (k : ℕ) (s : List ℕ) (at line : ℕ) → Each NoFeed cs
     → first_lines (length cs) (drop at s) ≡ first_lines (length cs) (under_comments cs []) → FirstBroken (drop at s) (under cs 1)
-    → at ≤ length s → length s < at + k → header_from k s at line ≡ WcnfHead.Broken (line + length cs)
+    → at ≤ length s → length s < at + k → header_from k s at line ≡ Err (line + length cs)
 unfolding under_comments
 headless-reads cs zero s at line each alike b l far = absurd (omega arith)
 headless-reads [] (suc k) s at line each alike b l far = go (head-shape k s at line l)
   where
-    go : HeadShape k s at line → header_from (suc k) s at line ≡ WcnfHead.Broken (line + 0)
+    go : HeadShape k s at line → header_from (suc k) s at line ≡ Err (line + 0)
     go (comment c next free a far e) = absurd (b.breaks (comment-in s at c next free a 0 (none_yet (drop next s))))
     go (header h next held a) =
         absurd (b.breaks (header-in s at h next held a 0 (blank h.clauses) (blank-long h.clauses) (blank-held h.clauses) (no_lines (drop next s) _)))
-    go (neither n e) = e ∙ ap WcnfHead.Broken (omega arith)
+    go (neither n e) = e ∙ ap Err (omega arith)
 headless-reads (c ∷ cs) (suc k) s at line each alike b l far =
     let free = each.0 in
     let next = at + length (comment_bytes c) + 1 in
@@ -184,15 +182,15 @@ headless-reads (c ∷ cs) (suc k) s at line each alike b l far =
     comment-read k s at line c free a.stand a.feed
     ∙ headless-reads cs k s next (line + 1) each.1 (here-tail s at next (comment_bytes c) (comment-no-feed c free) a (length cs) (under_comments cs []) alike)
     (comment-back s at c next free a (under cs 1) b) a.inside (omega arith)
-    ∙ ap WcnfHead.Broken (omega arith)
+    ∙ ap Err (omega arith)
 
 pub headless-judged : (s : List ℕ) (most room : ℕ) (cs : List (List ℕ)) → Each NoFeed cs
     → first_lines (length cs) s ≡ first_lines (length cs) (under_comments cs []) → FirstBroken s (length cs + 1)
-    → wcnf_read_why most s room ≡ Refused (BadText (length cs + 1))
+    → wcnf_read_why most s room ≡ Err (BadText (length cs + 1))
 unfolding wcnf_read_why header_of
 headless-judged s most room cs each alike b =
     let read = headless-reads cs (suc (length s)) s 0 1 each alike (subst (FirstBroken s) (sym (under-is cs 1)) b) (omega arith) (omega arith) in
-    rw read (ap (λ (k : ℕ). Refused (BadText k)) (omega arith))
+    rw read (ap (λ (k : ℕ). Err (BadText k)) (omega arith))
 
 -- ---- a header, and clauses up to a line that is none
 
@@ -200,7 +198,7 @@ pub cut-judged : (s : List ℕ) (most room : ℕ) (f : Form) → Held f → (j :
     → first_lines (length f.comments + (j + 1)) s ≡ first_lines (length f.comments + (j + 1)) (form_text f)
     → FirstBroken s (length f.comments + (j + 2))
     → wcnf_read_why most s room ≡ figures_first most room f.header
-    (faults_first 0 f.header.variables (clauses_said (take j f.lines)) (Refused (BadText (length f.comments + (j + 2)))))
+    (faults_first 0 f.header.variables (clauses_said (take j f.lines)) (Err (BadText (length f.comments + (j + 2)))))
 unfolding form_text
 cut-judged s most room f held j alike b =
     let cs = f.comments in
@@ -219,7 +217,7 @@ cut-judged s most room f held j alike b =
       held = record { comments = held.comments; header = held.header; lines = each; whole = long ∙ held.whole };
       alike = passed-alike s cs h (suc j) (lines_text other) p q;
     }))
-    ∙ ap (λ (k : ℕ). faults_first 0 h.variables (clauses_said (take j f.lines)) (Refused (BadText k))) place)
+    ∙ ap (λ (k : ℕ). faults_first 0 h.variables (clauses_said (take j f.lines)) (Err (BadText k))) place)
 
 -- ---- any text
 
@@ -231,41 +229,41 @@ judged-by s most room (cut f held j few alike b) = cut-judged s most room f held
 -- ---- the line of a refusal 20
 
 -- a refusal 20 comes last: what is before it lets all pass
-figures-pass : (most room : ℕ) (h : HeaderLine) (after other : Judged) (k : ℕ) → figures_first most room h after ≡ Refused (BadText k)
+figures-pass : (most room : ℕ) (h : HeaderLine) (after other : Judged) (k : ℕ) → figures_first most room h after ≡ Err (BadText k)
     → figures_first most room h other ≡ other
 figures-pass most room h after other k e = go (ltb most_variables h.variables) (ltb most h.clauses) (ltb room (row_words * h.clauses)) e
   where
-    go : (a b c : Bool) → refuse a TooManyVariables (refuse b BadTable (refuse c NoRoom after)) ≡ Refused (BadText k)
+    go : (a b c : Bool) → refuse a TooManyVariables (refuse b BadTable (refuse c NoRoom after)) ≡ Err (BadText k)
         → refuse a TooManyVariables (refuse b BadTable (refuse c NoRoom other)) ≡ other
     go true b c q = impossible (cc)
     go false true c q = impossible (cc)
     go false false true q = impossible (cc)
     go false false false q = refl
 
-faults-pass : (cs : List (ℕ × List ℤ)) (i variables : ℕ) (after other : Judged) (k : ℕ) → faults_first i variables cs after ≡ Refused (BadText k)
+faults-pass : (cs : List (ℕ × List ℤ)) (i variables : ℕ) (after other : Judged) (k : ℕ) → faults_first i variables cs after ≡ Err (BadText k)
     → faults_first i variables cs other ≡ other
 unfolding faults_first
 faults-pass [] i variables after other k e = refl
 faults-pass (c ∷ cs) i variables after other k e =
     go (bad_members variables c.1) (faults-pass cs (suc i) variables after other k) e
   where
-    go : (a : Bool) → (faults_first (suc i) variables cs after ≡ Refused (BadText k) → faults_first (suc i) variables cs other ≡ other)
-        → refuse a (BadLiterals i) (faults_first (suc i) variables cs after) ≡ Refused (BadText k)
+    go : (a : Bool) → (faults_first (suc i) variables cs after ≡ Err (BadText k) → faults_first (suc i) variables cs other ≡ other)
+        → refuse a (BadLiterals i) (faults_first (suc i) variables cs after) ≡ Err (BadText k)
         → refuse a (BadLiterals i) (faults_first (suc i) variables cs other) ≡ other
     go true ih q = impossible (cc)
     go false ih q = ih q
 
 -- and so it does where nothing is due
-figures-free : (most room : ℕ) (h : HeaderLine) (after other : Judged) → figures_first most room h after ≡ Fine
-    → (after ≡ Fine) × (figures_first most room h other ≡ other)
+figures-free : (most room : ℕ) (h : HeaderLine) (after other : Judged) → figures_first most room h after ≡ Ok tt
+    → (after ≡ Ok tt) × (figures_first most room h other ≡ other)
 figures-free most room h after other e =
     let p1 = refuse-fine (ltb most_variables h.variables) TooManyVariables _ e in
     let p2 = refuse-fine (ltb most h.clauses) BadTable _ p1.1 in
     let p3 = refuse-fine (ltb room (row_words * h.clauses)) NoRoom _ p2.1 in
     (p3.1, rw (p1.0, p2.0, p3.0))
 
-faults-free : (cs : List (ℕ × List ℤ)) (i variables : ℕ) (after other : Judged) → faults_first i variables cs after ≡ Fine
-    → (after ≡ Fine) × (faults_first i variables cs other ≡ other)
+faults-free : (cs : List (ℕ × List ℤ)) (i variables : ℕ) (after other : Judged) → faults_first i variables cs after ≡ Ok tt
+    → (after ≡ Ok tt) × (faults_first i variables cs other ≡ other)
 unfolding faults_first
 faults-free [] i variables after other e = (e, refl)
 faults-free (c ∷ cs) i variables after other e =
@@ -277,16 +275,16 @@ faults-free (c ∷ cs) i variables after other e =
 abbrev in_turn : ℕ → ℕ → HeaderLine → List (ℕ × List ℤ) → Judged → Judged
 in_turn most room h cs after = figures_first most room h (faults_first 0 h.variables cs after)
 
-turn-pass : (most room : ℕ) (h : HeaderLine) (cs : List (ℕ × List ℤ)) (after other : Judged) (k : ℕ) → in_turn most room h cs after ≡ Refused (BadText k)
-    → (after ≡ Refused (BadText k)) × (in_turn most room h cs other ≡ other)
+turn-pass : (most room : ℕ) (h : HeaderLine) (cs : List (ℕ × List ℤ)) (after other : Judged) (k : ℕ) → in_turn most room h cs after ≡ Err (BadText k)
+    → (after ≡ Err (BadText k)) × (in_turn most room h cs other ≡ other)
 turn-pass most room h cs after other k e =
     let inner = sym (figures-pass most room h _ (faults_first 0 h.variables cs after) k e) ∙ e in (
       sym (faults-pass cs 0 h.variables after after k inner) ∙ inner,
       figures-pass most room h _ (faults_first 0 h.variables cs other) k e ∙ faults-pass cs 0 h.variables after other k inner,
     )
 
-pub turn-free : (most room : ℕ) (h : HeaderLine) (cs : List (ℕ × List ℤ)) (after other : Judged) → in_turn most room h cs after ≡ Fine
-    → (after ≡ Fine) × (in_turn most room h cs other ≡ other)
+pub turn-free : (most room : ℕ) (h : HeaderLine) (cs : List (ℕ × List ℤ)) (after other : Judged) → in_turn most room h cs after ≡ Ok tt
+    → (after ≡ Ok tt) × (in_turn most room h cs other ≡ other)
 turn-free most room h cs after other e =
     let outer = figures-free most room h _ (faults_first 0 h.variables cs other) e in
     let inner = faults-free cs 0 h.variables after other outer.0 in
@@ -302,33 +300,33 @@ one_place s j k p q =
 pub unbroken : (s : List ℕ) (f : Form) → Held f → s ≡ form_text f → (k : ℕ) → FirstBroken s k → ⊥
 unbroken s f held is k b = b.breaks (record { form = f; held = held; alike = ap (first_lines k) is })
 
-same_place : (a k : ℕ) → Refused (BadText a) ≡ Refused (BadText k) → a ≡ k
+same_place : (a k : ℕ) → Err (BadText a) ≡ Err (BadText k) → a ≡ k
 same_place a k e = cc
 
 -- a refusal 20 is given with the first line that breaks the form, where nothing else is due before
 module _ (s : List ℕ) (most room k : ℕ) where
-  by_shape : (x : Shape s) → judged_by x most room ≡ Refused (BadText k) → FirstBroken s k × (due_before x most room ≡ Fine)
+  by_shape : (x : Shape s) → judged_by x most room ≡ Err (BadText k) → FirstBroken s k × (due_before x most room ≡ Ok tt)
   by_shape (whole f held is) q =
-      let z = (turn-pass most room f.header (clauses_said f.lines) Fine Fine k q).0 in
+      let z = (turn-pass most room f.header (clauses_said f.lines) (Ok tt) (Ok tt) k q).0 in
       impossible (cc)
   by_shape (headless cs each alike b) q = (subst (FirstBroken s) (same_place (length cs + 1) k q) b, refl)
   by_shape (cut f held j few alike b) q =
       let place = length f.comments + (j + 2) in
-      let z = turn-pass most room f.header (clauses_said (take j f.lines)) (Refused (BadText place)) Fine k q in
+      let z = turn-pass most room f.header (clauses_said (take j f.lines)) (Err (BadText place)) (Ok tt) k q in
       (subst (FirstBroken s) (same_place place k z.0) b, z.1)
 
-  pub first-line : wcnf_read_why most s room ≡ Refused (BadText k) → FirstBroken s k
+  pub first-line : wcnf_read_why most s room ≡ Err (BadText k) → FirstBroken s k
   first-line e = (by_shape (shape_of s) (sym (judged-by s most room (shape_of s)) ∙ e)).0
 
-  pub line-due : (x : Shape s) → wcnf_read_why most s room ≡ Refused (BadText k) → due_before x most room ≡ Fine
+  pub line-due : (x : Shape s) → wcnf_read_why most s room ≡ Err (BadText k) → due_before x most room ≡ Ok tt
   line-due x e = (by_shape x (sym (judged-by s most room x) ∙ e)).1
 
-  pub line-given : (x : Shape s) → FirstBroken s k → due_before x most room ≡ Fine → wcnf_read_why most s room ≡ Refused (BadText k)
+  pub line-given : (x : Shape s) → FirstBroken s k → due_before x most room ≡ Ok tt → wcnf_read_why most s room ≡ Err (BadText k)
   line-given (whole f held is) b e = absurd (unbroken s f held is k b)
   line-given (headless cs each alike own) b e =
-      headless-judged s most room cs each alike own ∙ ap (λ (n : ℕ). Refused (BadText n)) (one_place s (length cs + 1) k own b)
+      headless-judged s most room cs each alike own ∙ ap (λ (n : ℕ). Err (BadText n)) (one_place s (length cs + 1) k own b)
   line-given (cut f held j few alike own) b e =
       let place = length f.comments + (j + 2) in
       cut-judged s most room f held j alike own
-      ∙ (turn-free most room f.header (clauses_said (take j f.lines)) Fine (Refused (BadText place)) e).1
-      ∙ ap (λ (n : ℕ). Refused (BadText n)) (one_place s place k own b)
+      ∙ (turn-free most room f.header (clauses_said (take j f.lines)) (Ok tt) (Err (BadText place)) e).1
+      ∙ ap (λ (n : ℕ). Err (BadText n)) (one_place s place k own b)

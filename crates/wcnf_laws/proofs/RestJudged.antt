@@ -1,4 +1,5 @@
 -- How the clauses' lines are judged: those of the form one by one, by 5; then that all is at its end, or the line that is none of the form.
+use Rattle.std.specs.Prelude.{Ok, Err}
 use Prim.Native.Nat.{ℕ, zero, suc, ◌+◌, ◌≤◌}
 use mathlib.Core.Path.{◌≡◌, refl, sym, ap, ◌∙◌}
 use mathlib.Core.List.{List, [], ◌∷◌}
@@ -7,9 +8,7 @@ use borrow.Author.Tests.{eq-eqb, ne_eqb}
 use lib.IntN.{ℤ}
 use lib.ListN.{length, drop, take, length-drop, drop_of_length-le}
 use Rattle.rules.specs.declared.Refusal.TheVariants.{BadText, BadLiterals}
-use Rattle.rules.specs.declared.Judged.{Judged}
-use Rattle.rules.specs.declared.Judged.TheVariants.{Fine, Refused}
-use Rattle.rules.specs.Refusals.{refuse}
+use Rattle.rules.specs.Refusals.{Judged, refuse}
 use Rattle.rules.specs.WcnfReader.{on_clause, bad_members, clauses_why}
 use Rattle.text_laws.specs.Lines.{Line, ended, missing, first_line, first_lines}
 use Rattle.text_laws.proofs.Cuts.{missing-is}
@@ -57,22 +56,22 @@ module _ (variables : ℕ) (s : List ℕ) where
   unfolding clauses_why
   one-judged m i at line c held h = clause-read s at c held h.stand h.feed _ _
 
-  none_left : (i at line : ℕ) → at ≡ length s → clauses_why 0 i variables s at line ≡ Fine
+  none_left : (i at line : ℕ) → at ≡ length s → clauses_why 0 i variables s at line ≡ Ok tt
   unfolding clauses_why
   none_left i at line e = rw (eq-eqb at (length s) e)
 
-  some_left : (i at line : ℕ) → (at ≡ length s → ⊥) → clauses_why 0 i variables s at line ≡ Refused (BadText line)
+  some_left : (i at line : ℕ) → (at ≡ length s → ⊥) → clauses_why 0 i variables s at line ≡ Err (BadText line)
   unfolding clauses_why
   some_left i at line e = rw (ne_eqb at (length s) e)
 
   unread-judged : (m i at line : ℕ) → ((broken : Judged) (go : ℕ → List ℤ → ℕ → Judged) → on_clause s at broken go ≡ broken)
-      → clauses_why (suc m) i variables s at line ≡ Refused (BadText line)
+      → clauses_why (suc m) i variables s at line ≡ Err (BadText line)
   unfolding clauses_why
   unread-judged m i at line h = h _ _
 
   pub ends-judged : (lines : List ClauseLine) (i at line : ℕ) → Each ClauseHeld lines → at ≤ length s
       → ((n : ℕ) → first_lines n (drop at s) ≡ first_lines n (lines_text lines))
-      → clauses_why (length lines) i variables s at line ≡ faults_first i variables (clauses_said lines) Fine
+      → clauses_why (length lines) i variables s at line ≡ faults_first i variables (clauses_said lines) (Ok tt)
   unfolding faults_first clauses_said
   ends-judged [] i at line held l alike = none_left i at line (omega (arith, (at-end s at (first_of 0 (drop at s) [] (alike 1) ∙ no_line)).1))
   ends-judged (c ∷ cs) i at line held l alike =
@@ -93,7 +92,7 @@ module _ (variables : ℕ) (s : List ℕ) where
       none [] refl tt (ap (first_lines 1) (drop_of_length-le s past))
 
   unread-line : (m i at line : ℕ) (cs : List ClauseLine) → length cs ≡ m → Each ClauseHeld cs → NoneAlike (suc m) at 1 → ClauseShape s at
-      → clauses_why (suc m) i variables s at line ≡ Refused (BadText line)
+      → clauses_why (suc m) i variables s at line ≡ Err (BadText line)
   unfolding first_lines
   unread-line m i at line cs long held none (unread e h) = unread-judged m i at line e
   unread-line m i at line cs long held none (read w ms next f) =
@@ -101,12 +100,12 @@ module _ (variables : ℕ) (s : List ℕ) where
 
   pub breaks-judged : (j : ℕ) (lines : List ClauseLine) (i at line : ℕ) → Each ClauseHeld lines → at ≤ length s
       → first_lines j (drop at s) ≡ first_lines j (lines_text lines) → NoneAlike (length lines) at (suc j)
-      → clauses_why (length lines) i variables s at line ≡ faults_first i variables (clauses_said (take j lines)) (Refused (BadText (line + j)))
+      → clauses_why (length lines) i variables s at line ≡ faults_first i variables (clauses_said (take j lines)) (Err (BadText (line + j)))
   unfolding faults_first clauses_said
   breaks-judged zero [] i at line held l alike none =
-      some_left i at line (left_over at none) ∙ ap (λ (k : ℕ). Refused (BadText k)) (omega arith)
+      some_left i at line (left_over at none) ∙ ap (λ (k : ℕ). Err (BadText k)) (omega arith)
   breaks-judged zero (c ∷ cs) i at line held l alike none =
-      unread-line (length cs) i at line cs refl held.1 none (clause-shape s at) ∙ ap (λ (k : ℕ). Refused (BadText k)) (omega arith)
+      unread-line (length cs) i at line cs refl held.1 none (clause-shape s at) ∙ ap (λ (k : ℕ). Err (BadText k)) (omega arith)
   breaks-judged (suc j) [] i at line held l alike none =
       let end = at-end s at (first_of j (drop at s) [] alike ∙ no_line) in
       absurd (none [] refl tt (ap (first_lines (suc (suc j))) (end.0 ∙ no_text)))
@@ -120,4 +119,4 @@ module _ (variables : ℕ) (s : List ℕ) where
       (h.lines (suc j) ∙ ap (λ (x : List Line). ended (clause_bytes c) ∷ x) e ∙ sym (lines-front (suc j) c other))) in
       one-judged (length cs) i at line c held.0 h
       ∙ ap (λ (k : Judged). refuse (bad_members variables (numbers_of c.literals)) (BadLiterals i) k)
-      (after ∙ ap (λ (k : ℕ). faults_first (suc i) variables (clauses_said (take j cs)) (Refused (BadText k))) far)
+      (after ∙ ap (λ (k : ℕ). faults_first (suc i) variables (clauses_said (take j cs)) (Err (BadText k))) far)

@@ -1,5 +1,6 @@
 -- The clauses' lines, and that nothing follows them. A line that is read is one of the form, so what is read so far goes on to some lines of the form; and
 -- a line that is not read is none of the form, for there it would be read.
+use Rattle.std.specs.Prelude.{Option, Some, None}
 use Prim.Native.Nat.{ℕ, zero, suc, ◌+◌, ◌≤◌}
 use mathlib.Core.Path.{◌≡◌, refl, sym, ap, ◌∙◌}
 use mathlib.Core.Logic.{⊎_elim}
@@ -9,8 +10,7 @@ use native.Mathlib.Omega.{arith}
 use lib.IntN.{ℤ}
 use lib.ListN.{length, get_or, drop, length-append, length-drop, drop_of_length-le}
 use Rattle.masks.proofs.Choice.{impossible, eq-or-ne}
-use Rattle.rules.specs.declared.Parsed.{Parsed}
-use Rattle.rules.specs.declared.Judged.{Judged}
+use Rattle.rules.specs.Refusals.{Judged}
 use Rattle.rules.specs.Text.{line_feed}
 use Rattle.rules.specs.Reader.{stands, number_at}
 use Rattle.rules.specs.WcnfReader.{MembersRead, members, broken_line, members_from, on_clause}
@@ -168,13 +168,13 @@ clause-then s at m w ms next j f b =
 
 -- ---- a line that is not read
 
-no-weight : (s : List ℕ) (at : ℕ) → number_at s at ≡ Parsed.Broken → (c : ClauseLine) → ClauseHeld c → first_line (drop at s) ≡ ended (clause_bytes c) → ⊥
+no-weight : (s : List ℕ) (at : ℕ) → number_at s at ≡ None → (c : ClauseLine) → ClauseHeld c → first_line (drop at s) ≡ ended (clause_bytes c) → ⊥
 no-weight s at e c h q =
     let here = here-line s at (clause_bytes c) q in
     let read = weight-read s at c h here.0 here.1 in
     impossible (cc)
 
-no-members : (s : List ℕ) (at w mid : ℕ) → number_at s at ≡ Parsed.Number w mid → members_from (length s) s mid ≡ broken_line
+no-members : (s : List ℕ) (at w mid : ℕ) → number_at s at ≡ Some (w, mid) → members_from (length s) s mid ≡ broken_line
     → (c : ClauseLine) → ClauseHeld c → first_line (drop at s) ≡ ended (clause_bytes c) → ⊥
 no-members s at w mid p e c h q =
     let here = here-line s at (clause_bytes c) q in
@@ -204,13 +204,13 @@ pub data ClauseShape (s : List ℕ) (at : ℕ) : Type 0 where
 pub clause-shape : (s : List ℕ) (at : ℕ) → ClauseShape s at
 clause-shape s at = on-weight (number_at s at) refl
   where
-    on-members : (w mid : ℕ) → number_at s at ≡ Parsed.Number w mid → (r : MembersRead) → members_from (length s) s mid ≡ r → ClauseShape s at
+    on-members : (w mid : ℕ) → number_at s at ≡ Some (w, mid) → (r : MembersRead) → members_from (length s) s mid ≡ r → ClauseShape s at
     on-members w mid p broken_line q = unread (λ broken go. rw p (rw q)) (no-members s at w mid p q)
     on-members w mid p (members ls next) q = read w ls next (clause-found s at w mid (length s) ls next p q)
 
-    on-weight : (p : Parsed) → number_at s at ≡ p → ClauseShape s at
-    on-weight Parsed.Broken p = unread (λ broken go. rw p) (no-weight s at p)
-    on-weight (Parsed.Number w mid) p = on-members w mid p (members_from (length s) s mid) refl
+    on-weight : (p : Option (ℕ × ℕ)) → number_at s at ≡ p → ClauseShape s at
+    on-weight None p = unread (λ broken go. rw p) (no-weight s at p)
+    on-weight (Some (w, mid)) p = on-members w mid p (members_from (length s) s mid) refl
 
 pub rest-shape : (m : ℕ) (s : List ℕ) (at : ℕ) → at ≤ length s → RestShape m (drop at s)
 unfolding lines_text

@@ -1,5 +1,6 @@
 -- What a text of the form says is read as it is said: its figures, and of each clause the weight and the literals. So texts that differ only in comments,
 -- gaps, the order of literals or repeats give the same table, and are judged alike.
+use Rattle.std.specs.Prelude.{Ok, Err}
 use Prim.Native.Nat.{ℕ, suc, ◌+◌}
 use mathlib.Core.Path.{◌≡◌, refl, sym, ap, ap₂, subst, ◌∙◌}
 use mathlib.Core.Logic.{⊎_elim}
@@ -11,13 +12,10 @@ use lib.ListN.{length, drop, take}
 use Rattle.masks.proofs.Choice.{impossible, same_test, or_cases}
 use Rattle.literals.specs.declared.Lits.{Lits}
 use Rattle.literals.specs.Literal.{size}
-use Rattle.rules.specs.declared.WcnfHead.{WcnfHead}
 use Rattle.rules.specs.declared.Refusal.TheVariants.{BadText, BadLiterals}
-use Rattle.rules.specs.declared.Judged.{Judged}
-use Rattle.rules.specs.declared.Judged.TheVariants.{Fine, Refused}
-use Rattle.rules.specs.Refusals.{refuse}
+use Rattle.rules.specs.Refusals.{Judged, refuse}
 use Rattle.rules.specs.Table.{bad_lits}
-use Rattle.rules.specs.WcnfReader.{some_above, bad_members, header_of, wcnf_read_why, wcnf_words}
+use Rattle.rules.specs.WcnfReader.{some_above, bad_members, header_of, wcnf_read_why, wcnf_words, header_says}
 use Rattle.text_laws.specs.Lines.{first_lines}
 use Rattle.wcnf_laws.specs.Members.{SameMembers, SameClauses, none, next}
 use Rattle.wcnf_laws.specs.Said.{clauses_at, SaysSame}
@@ -47,7 +45,7 @@ clauses-said s (c ∷ cs) at held alike =
 
 pub record Figured (s : List ℕ) (f : Form) : Type 0 where
   pub next : ℕ
-  pub header : header_of s ≡ WcnfHead.Figures f.header.variables f.header.clauses f.header.top next (1 + length f.comments)
+  pub header : header_of s ≡ Ok (header_says f.header.variables f.header.clauses f.header.top next (1 + length f.comments))
   pub said : clauses_at f.header.clauses s next ≡ clauses_said f.lines
 
 pub figured : (s : List ℕ) (f : Form) → Held f → s ≡ form_text f → Figured s f
@@ -153,7 +151,7 @@ same-judged f g p q only most room =
     let count = as_many f g p q only in
     whole-judged (form_text f) most room f p refl
     ∙ rw (only.variables, count)
-    (ap (figures_first most room g.header) (faults-same 0 g.header.variables Fine only.clauses))
+    (ap (figures_first most room g.header) (faults-same 0 g.header.variables (Ok tt) only.clauses))
     ∙ sym (whole-judged (form_text g) most room g q refl)
 
 -- ---- an accepted text is of the form
@@ -163,14 +161,14 @@ pub record Accepted (s : List ℕ) : Type 0 where
   pub held : Held form
   pub text : s ≡ form_text form
 
-pub accepted-form : (s : List ℕ) (most room : ℕ) → wcnf_read_why most s room ≡ Fine → Accepted s
+pub accepted-form : (s : List ℕ) (most room : ℕ) → wcnf_read_why most s room ≡ Ok tt → Accepted s
 accepted-form s most room e = go (shape_of s) (sym (judged-by s most room (shape_of s)) ∙ e)
   where
-    go : (x : Shape s) → judged_by x most room ≡ Fine → Accepted s
+    go : (x : Shape s) → judged_by x most room ≡ Ok tt → Accepted s
     go (whole f held is) q = record { form = f; held = held; text = is }
     go (headless cs each alike b) q = impossible (cc)
     go (cut f held j few alike b) q =
         let said = clauses_said (take j f.lines) in
-        let last : Judged = Refused (BadText (length f.comments + (j + 2))) in
-        let z : last ≡ Fine = (turn-free most room f.header said last last q).0 in
+        let last : Judged = Err (BadText (length f.comments + (j + 2))) in
+        let z : last ≡ (Ok tt) = (turn-free most room f.header said last last q).0 in
         impossible (cc)

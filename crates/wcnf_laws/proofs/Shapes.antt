@@ -1,5 +1,6 @@
 -- Each text is of the form, or has a first line that breaks it. A line that is read is one of the form, and stands in front of what the rest is; a line that
 -- is not read is none of the form, for there it would be read. A comment is told from a header by its first byte.
+use Rattle.std.specs.Prelude.{Result, Ok, Err}
 use Prim.Native.Nat.{ℕ, zero, suc, ◌+◌, ◌-◌, ◌<◌, ◌≤◌}
 use mathlib.Core.Path.{◌≡◌, refl, sym, ap, subst, ◌∙◌}
 use mathlib.Core.Logic.{⊎_elim}
@@ -131,7 +132,7 @@ pub data HeadShape (k : ℕ) (s : List ℕ) (at line : ℕ) : Type 0 where
   comment : (c : List ℕ) (next : ℕ) → NoFeed c → Here s at (comment_bytes c) next → at < next
       → header_from (suc k) s at line ≡ header_from k s next (line + 1) → HeadShape k s at line
   header : (h : HeaderLine) (next : ℕ) → HeaderHeld h → Here s at (header_bytes h) next → HeadShape k s at line
-  neither : Neither s at → header_from (suc k) s at line ≡ WcnfHead.Broken line → HeadShape k s at line
+  neither : Neither s at → header_from (suc k) s at line ≡ Err line → HeadShape k s at line
 
 pub begins-front : (s : List ℕ) (at : ℕ) → begins s at ≡ true → get_or s at 0 ≡ c_code
 begins-front s at e = front-byte s at c_code [] e
@@ -162,18 +163,18 @@ module _ (k : ℕ) (s : List ℕ) (at line : ℕ) (l : at ≤ length s) where
           })
           (comment-unended k s at line b h)
 
-  by-header : begins s at ≡ false → (x : WcnfHead) → header_at s at line ≡ x → HeadShape k s at line
-  by-header b (WcnfHead.Figures n m t next own) e =
-      let f = (header-found s at line n m t next own e).0 in
-      header f.header next f.held (found_here s at (header_bytes f.header) next (header-no-feed f.header) f.stand f.feed f.end)
-  by-header b (WcnfHead.Broken own) e =
+  by-header : begins s at ≡ false → (x : Result WcnfHead ℕ) → header_at s at line ≡ x → HeadShape k s at line
+  by-header b (Ok head) e =
+      let f = (header-found s at line head.variables head.clauses head.top head.next head.line e).0 in
+      header f.header head.next f.held (found_here s at (header_bytes f.header) head.next (header-no-feed f.header) f.stand f.feed f.end)
+  by-header b (Err own) e =
       let is = own_line s line own at e in
       neither
       (record {
         no-comment = λ c free a. clash (comment-begins s at c a.stand) b;
         no_header = λ g held a. let read = header_read s at line g held a.stand a.feed in impossible (cc);
       })
-      (no-comment k s at line b ∙ e ∙ ap WcnfHead.Broken is)
+      (no-comment k s at line b ∙ e ∙ ap Err is)
 
   pub head-shape : HeadShape k s at line
   head-shape = ⊎_elim by-comment (λ b. by-header b (header_at s at line) refl) (cases (begins s at))

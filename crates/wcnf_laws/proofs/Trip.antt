@@ -1,5 +1,6 @@
 -- What is written of an admissible table is read back: it is a text of the form, with one space in each gap, that says of each row its weight and its literals,
 -- and of a hard row top. Each soft weight is below the sum of all and one more, so that the hard rows alone are read as hard.
+use Rattle.std.specs.Prelude.{Ok, Err}
 use Prim.Native.Nat.{ℕ, zero, suc, ◌+◌, ◌*◌, ◌^◌, ◌<◌, ◌≤◌}
 use mathlib.Core.Path.{◌≡◌, refl, sym, ap, ap₂, ◌∙◌}
 use mathlib.Core.Bool.{Bool, true, false, cond}
@@ -19,13 +20,11 @@ use Rattle.literals.specs.declared.Lits.{Lits}
 use Rattle.literals.specs.Literal.{most_variables, size}
 use Rattle.literals.proofs.TwoMasks as Two
 use Rattle.rules.specs.declared.Row.{Row}
-use Rattle.rules.specs.declared.WcnfRead.{WcnfRead}
 use Rattle.rules.specs.declared.Refusal.TheVariants.{NoRoom}
-use Rattle.rules.specs.declared.Judged.TheVariants.{Fine, Refused}
 use Rattle.rules.specs.Table.{row_words, most_rows, hard_mark, is_hard, row_of, row_count, row_words_of, bad_lits, table_why}
 use Rattle.rules.specs.Text.{bytes, line_feed, space, minus, digit_zero, most_digits, number_text, text_why}
 use Rattle.rules.specs.Wcnf.{top_of, spaced_literal, spaced_lits, clause_text, clauses_text, wcnf_text}
-use Rattle.rules.specs.WcnfReader.{lits_of_members, clause_row, wcnf_read_why, wcnf_words, wcnf_read, wcnf_table}
+use Rattle.rules.specs.WcnfReader.{lits_of_members, clause_row, wcnf_read_why, wcnf_words, wcnf_read, wcnf_table, file_says}
 use Rattle.rules.specs.Wcnf.{wcnf_write_why}
 use Rattle.rules.proofs.Admissible.{RowFine, TableFine, table-fine}
 use Rattle.rules.proofs.Judging.{order-fine, words-fine}
@@ -239,7 +238,7 @@ module _ (n top : ℕ) (table : List ℕ) where
     lines-held d (suc i) (λ j low high. w j (omega arith) (omega arith)),
   )
 
-  none-faulted : (d i k : ℕ) → AllFaultless d i → faults_first k n (said_from d i) Fine ≡ Fine
+  none-faulted : (d i k : ℕ) → AllFaultless d i → faults_first k n (said_from d i) (Ok tt) ≡ Ok tt
   unfolding lines_of line_of clauses_said faults_first
   none-faulted zero i k w = refl
   none-faulted (suc d) i k w =
@@ -263,7 +262,7 @@ module _ (n top : ℕ) (table : List ℕ) where
       (ap (clause_row top (line_weight top row)) lits ∙ f.back)
       (said-words d (suc i) (λ j low high. w j (omega arith) (omega arith)))
 
-module _ (n : ℕ) (table : List ℕ) (ok : table_why n table ≡ Fine) where
+module _ (n : ℕ) (table : List ℕ) (ok : table_why n table ≡ Ok tt) where
   abbrev text : List ℕ
   text = wcnf_text n table
 
@@ -292,7 +291,7 @@ module _ (n : ℕ) (table : List ℕ) (ok : table_why n table ≡ Fine) where
         whole = lines_long (top_of table) (row_count table) 0 table;
       }
 
-  judged : (room : ℕ) → wcnf_read_why most_rows text room ≡ figures_first most_rows room (header_of_table n table) Fine
+  judged : (room : ℕ) → wcnf_read_why most_rows text room ≡ figures_first most_rows room (header_of_table n table) (Ok tt)
   judged room =
       whole-judged text most_rows room f written_held (written-form n table)
       ∙ ap (figures_first most_rows room (header_of_table n table)) (none-faulted n (top_of table) table (row_count table) 0 0 all-faultless)
@@ -303,7 +302,7 @@ module _ (n : ℕ) (table : List ℕ) (ok : table_why n table ≡ Fine) where
       ∙ said-words n (top_of table) table (row_count table) 0 all-faultless
       ∙ words-all (row_count table) table fine.whole
 
-  why-fine : (room : ℕ) → length table ≤ room → wcnf_read_why most_rows text room ≡ Fine
+  why-fine : (room : ℕ) → length table ≤ room → wcnf_read_why most_rows text room ≡ Ok tt
   why-fine room h =
       judged room
       ∙ rw (
@@ -312,7 +311,7 @@ module _ (n : ℕ) (table : List ℕ) (ok : table_why n table ≡ Fine) where
         le-ltb room (row_words * row_count table) (omega (arith, fine.whole)),
       )
 
-  why-tight : (room : ℕ) → room < length table → wcnf_read_why most_rows text room ≡ Refused NoRoom
+  why-tight : (room : ℕ) → room < length table → wcnf_read_why most_rows text room ≡ Err NoRoom
   why-tight room h =
       judged room
       ∙ rw (
@@ -321,7 +320,7 @@ module _ (n : ℕ) (table : List ℕ) (ok : table_why n table ≡ Fine) where
         lt-ltb room (row_words * row_count table) (omega (arith, fine.whole)),
       )
 
-  answered : (room : ℕ) → length table ≤ room → wcnf_read most_rows text room ≡ WcnfRead.Table n (row_count table)
+  answered : (room : ℕ) → length table ≤ room → wcnf_read most_rows text room ≡ Ok (file_says n (row_count table))
   unfolding wcnf_read
   answered room h = rw (why-fine room h, (figured text f written_held (written-form n table)).header)
 
@@ -346,7 +345,7 @@ module _ (n : ℕ) (table : List ℕ) (ok : table_why n table ≡ Fine) where
 
 -- ---- what an accepted writer leaves
 
-pub returns : (n : ℕ) (table out : List ℕ) → wcnf_write_why n table out ≡ Fine → Returns n table out
+pub returns : (n : ℕ) (table out : List ℕ) → wcnf_write_why n table out ≡ Ok tt → Returns n table out
 unfolding text_why
 returns n table out e =
     let text = wcnf_text n table in

@@ -1,4 +1,5 @@
 -- No answer is longer than its lines can be.
+use Rattle.std.specs.Prelude.{Result, Ok, Err}
 use Prim.Native.Nat.{ℕ, ◌≤◌}
 use mathlib.Core.Path.{refl}
 use mathlib.Core.List.{◌++◌}
@@ -37,6 +38,6 @@ found-length n f h =
     let values = values_length n f.best h in
     rw (found-is n f, length-append k (w ++ (s ++ v)), length-append w (s ++ v), length-append s v) (omega arith)
 
-pub outcome-length : (o : Outcome) → Counted o → length (wcnf_outcome_text o) ≤ most_answer
-outcome-length (Outcome.Searched n root f) h = found-length n f h.0
-outcome-length (Outcome.Refused r) h = refusal-length r
+pub outcome-length : (o : Result Outcome Refusal) → Counted o → length (wcnf_outcome_text o) ≤ most_answer
+outcome-length (Ok o) h = found-length o.variables o.found h.0
+outcome-length (Err r) h = refusal-length r

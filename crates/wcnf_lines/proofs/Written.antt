@@ -1,4 +1,5 @@
 -- The lines of an answer as the bytes that are stored for them, by case, and how long each can be.
+use Rattle.std.specs.Prelude.{Option, Some, None}
 use Prim.Native.Nat.{ℕ, ◌+◌, ◌≤◌}
 use mathlib.Core.Path.{◌≡◌, refl, ap, ◌∙◌}
 use mathlib.Core.List.{List, [], ◌∷◌, ◌++◌, append_assoc}
@@ -36,10 +37,10 @@ refusal_is why told e =
     (ap (λ (x : List ℕ). x ++ unknown_line) (append_assoc n (place_key ++ p) end ∙ ap (λ (x : List ℕ). n ++ x) (append_assoc place_key p end))
     ∙ append_assoc n (place_key ++ (p ++ end)) unknown_line))
 
-pub weight-none : (b : Best) → b ≡ Best.Nothing → best_weight_text b ≡ []
+pub weight-none : (b : Option Best) → b ≡ None → best_weight_text b ≡ []
 weight-none b e = rw e
 
-pub weight-some : (b : Best) (w r : ℕ) → b ≡ Best.Reading w r → best_weight_text b ≡ line_text weight_key w
+pub weight-some : (b : Option Best) (w r : ℕ) → b ≡ Some (record { weight = w; reading = r }) → best_weight_text b ≡ line_text weight_key w
 unfolding line bytes line_text
 weight-some b w r e = rw e
 
@@ -55,10 +56,10 @@ pub statement-impossible : (s : Status) → s ≡ Status.Impossible → statemen
 unfolding line bytes
 statement-impossible s e = rw e
 
-pub values-none : (n : ℕ) (b : Best) → b ≡ Best.Nothing → values_text n b ≡ []
+pub values-none : (n : ℕ) (b : Option Best) → b ≡ None → values_text n b ≡ []
 values-none n b e = rw e
 
-pub values-some : (n : ℕ) (b : Best) (w r : ℕ) (l : Lits) → b ≡ Best.Reading w r → l ≡ literals_of n r
+pub values-some : (n : ℕ) (b : Option Best) (w r : ℕ) (l : Lits) → b ≡ Some (record { weight = w; reading = r }) → l ≡ literals_of n r
     → values_text n b ≡ values_key ++ (spaced_lits 0 n l ++ (line_feed ∷ []))
 unfolding line bytes
 values-some n b w r l e f = rw (e, f)
@@ -70,10 +71,10 @@ found-is n f = refl
 
 -- ---- how long they are
 
-pub weight-length : (b : Best) → length (best_weight_text b) ≤ most_weight_line
+pub weight-length : (b : Option Best) → length (best_weight_text b) ≤ most_weight_line
 unfolding line bytes line_text
-weight-length Best.Nothing = omega arith
-weight-length (Best.Reading w r) = line-length weight_key w
+weight-length None = omega arith
+weight-length (Some best) = line-length weight_key best.weight
 
 pub statement-length : (s : Status) → length (statement_text s) ≤ most_statement_line
 unfolding line bytes
@@ -81,9 +82,9 @@ statement-length Status.Done = omega arith
 statement-length Status.Stopped = omega arith
 statement-length Status.Impossible = omega arith
 
-pub values_length : (n : ℕ) (b : Best) → n ≤ most_variables → length (values_text n b) ≤ most_values_line
+pub values_length : (n : ℕ) (b : Option Best) → n ≤ most_variables → length (values_text n b) ≤ most_values_line
 unfolding line bytes
-values_length n Best.Nothing h = omega arith
-values_length n (Best.Reading w r) h =
-    let lits = spaced_lits 0 n (literals_of n r) in
-    rw (length-append lits (line_feed ∷ [])) (omega (arith, spaced-length n (literals_of n r)))
+values_length n None h = omega arith
+values_length n (Some best) h =
+    let lits = spaced_lits 0 n (literals_of n best.reading) in
+    rw (length-append lits (line_feed ∷ [])) (omega (arith, spaced-length n (literals_of n best.reading)))

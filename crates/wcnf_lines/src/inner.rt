@@ -22,13 +22,13 @@ fn put_refusal(out: &mut [u8], why: Refusal) -> usize
     inner::put_key(out, second, b"s UNKNOWN\n")
 }
 
-fn put_weight(out: &mut [u8], at: usize, best: Best) -> usize
+fn put_weight(out: &mut [u8], at: usize, best: Option<Best>) -> usize
     requires { at + most_weight_line ≤ 2 ^ 32 }
     ensures { Stored out.old at (best_weight_text best) result out.new }
 {
     match best {
-        Best::Nothing => at,
-        Best::Reading { weight, reading: _ } => inner::put_number_line(out, at, b"o ", weight),
+        None => at,
+        Some(Best { weight, reading: _ }) => inner::put_number_line(out, at, b"o ", weight),
     }
 }
 
@@ -44,13 +44,13 @@ fn put_statement(out: &mut [u8], at: usize, status: Status) -> usize
 }
 
 // A literal for each variable.
-fn put_values(out: &mut [u8], at: usize, variables: u64, best: Best) -> usize
+fn put_values(out: &mut [u8], at: usize, variables: u64, best: Option<Best>) -> usize
     requires { (at + most_values_line ≤ 2 ^ 32) × (variables ≤ most_variables) }
     ensures { Stored out.old at (values_text variables best) result out.new }
 {
     match best {
-        Best::Nothing => at,
-        Best::Reading { weight: _, reading } => {
+        None => at,
+        Some(Best { weight: _, reading }) => {
             let lits = literals_of(variables, reading);
             let from = inner::put(out, at, b'v');
             let end = put_spaced_lits(out, from, variables, lits);
@@ -73,16 +73,16 @@ fn put_found(out: &mut [u8], variables: u64, found: Found) -> usize
 }
 
 // What an input came to.
-pub fn put_outcome(out: &mut [u8], outcome: Outcome) -> usize
+pub fn put_outcome(out: &mut [u8], outcome: Result<Outcome, Refusal>) -> usize
     requires { Counted outcome }
     ensures { Stored out.old 0 (wcnf_outcome_text outcome) result out.new }
 {
     match outcome {
-        Outcome::Refused(why) => put_refusal(out, why),
-        Outcome::Searched {
+        Err(why) => put_refusal(out, why),
+        Ok(Outcome {
             variables,
             root: _,
             found,
-        } => put_found(out, variables, found),
+        }) => put_found(out, variables, found),
     }
 }

@@ -1,5 +1,6 @@
 -- A clause read member by member: a signed number in each of its forms, what the definition comes to behind one, and what was gathered so far
 -- with what is still to be read. Whoever reads on gathers what the definition says of the whole list.
+use Rattle.std.specs.Prelude.{Option, Some, None}
 use Prim.Native.Nat.{ℕ, zero, suc, ◌+◌, ◌-◌, ◌<◌}
 use mathlib.Core.Path.{◌≡◌, refl, sym, ap, ap₂, ◌∙◌}
 use mathlib.Core.Bool.{Bool, true, false, cond, ◌||◌, or_assoc, or-false}
@@ -12,13 +13,11 @@ use lib.ListN.{length, get_or}
 use Rattle.masks.proofs.Choice.{impossible, not_so}
 use Rattle.literals.specs.declared.Literal.{Literal}
 use Rattle.literals.specs.declared.Lits.{Lits}
-use Rattle.literals.specs.declared.Offered.TheVariants.{Fine, Refused}
 use Rattle.literals.specs.Literal.{most_variables, size, is_literal, opposite, lits_of, offered}
 use Rattle.literals.specs.Lits.{no_lits, together}
 use Rattle.literals.proofs.Opposites.{literal-sized, opposite-literal}
 use Rattle.literals.proofs.Offers.{offered-fine, offered-refused}
 use Rattle.literals.proofs.TwoMasks.{lits-other, together-none, none-together, together-assoc}
-use Rattle.rules.specs.declared.Parsed.{Parsed}
 use Rattle.rules.specs.Text.{line_feed, minus}
 use Rattle.rules.specs.Reader.{number_at, on_number}
 use Rattle.rules.specs.Table.{bad_lits}
@@ -32,25 +31,25 @@ use Rattle.wcnf_pieces.specs.Clauses.{of_sign, signed_read, signed_at, member_at
 -- ---- a signed number
 
 module _ (s : List ℕ) (at : ℕ) where
-  pub plain-broken : (get_or s at 0 ≡ minus → ⊥) → number_at s at ≡ Parsed.Broken → signed_at s at ≡ SignedRead.Broken
+  pub plain-broken : (get_or s at 0 ≡ minus → ⊥) → number_at s at ≡ None → signed_at s at ≡ None
   unfolding signed_at
   plain-broken h e = rw (ne_eqb (get_or s at 0) minus h, e)
 
-  pub plain-is : (v next : ℕ) → (get_or s at 0 ≡ minus → ⊥) → number_at s at ≡ Parsed.Number v next
-      → signed_at s at ≡ SignedRead.Signed v false next
+  pub plain-is : (v next : ℕ) → (get_or s at 0 ≡ minus → ⊥) → number_at s at ≡ Some (v, next)
+      → signed_at s at ≡ Some (record { size = v; negative = false; next = next })
   unfolding signed_at
   plain-is v next h e = rw (ne_eqb (get_or s at 0) minus h, e)
 
-  pub minus-broken : get_or s at 0 ≡ minus → number_at s (at + 1) ≡ Parsed.Broken → signed_at s at ≡ SignedRead.Broken
+  pub minus-broken : get_or s at 0 ≡ minus → number_at s (at + 1) ≡ None → signed_at s at ≡ None
   unfolding signed_at
   minus-broken h e = rw (eq-eqb (get_or s at 0) minus h, e)
 
-  pub minus-zero : (v next : ℕ) → get_or s at 0 ≡ minus → number_at s (at + 1) ≡ Parsed.Number v next → v ≡ 0 → signed_at s at ≡ SignedRead.Broken
+  pub minus-zero : (v next : ℕ) → get_or s at 0 ≡ minus → number_at s (at + 1) ≡ Some (v, next) → v ≡ 0 → signed_at s at ≡ None
   unfolding signed_at
   minus-zero v next h e z = rw (eq-eqb (get_or s at 0) minus h, e) (rw (eq-eqb v 0 z))
 
-  pub minus_is : (v next : ℕ) → get_or s at 0 ≡ minus → number_at s (at + 1) ≡ Parsed.Number v next → (v ≡ 0 → ⊥)
-      → signed_at s at ≡ SignedRead.Signed v true next
+  pub minus_is : (v next : ℕ) → get_or s at 0 ≡ minus → number_at s (at + 1) ≡ Some (v, next) → (v ≡ 0 → ⊥)
+      → signed_at s at ≡ Some (record { size = v; negative = true; next = next })
   unfolding signed_at
   minus_is zero next h e z = absurd (z refl)
   minus_is (suc v) next h e z = rw (eq-eqb (get_or s at 0) minus h, e) (rw (ne_eqb (suc v) 0 z))
@@ -74,10 +73,10 @@ module _ (negative : Bool) (n : ℕ) where
       far : is_literal (of_sign negative n) ≡ true → ⊥
       far t = omega (arith, (literal-sized (of_sign negative n) t).most, size_of negative n, h)
 
-  pub no-literal : offered (pos n) ≡ Refused → lits_of (of_sign negative n) ≡ no_lits
+  pub no-literal : offered (pos n) ≡ None → lits_of (of_sign negative n) ≡ no_lits
   no-literal e = lits-other (of_sign negative n) (one_size ∙ offered-refused (pos n) e)
 
-module _ (n : ℕ) (l : Literal) (e : offered (pos n) ≡ Fine l) where
+module _ (n : ℕ) (l : Literal) (e : offered (pos n) ≡ Some l) where
   pub plain-literal : (r : Lits) → r ≡ lits_of l.value → r ≡ lits_of (of_sign false n)
   plain-literal r is = is ∙ ap (λ (k : Literal). lits_of k.value) (offered-fine (pos n) l e).1
 
@@ -88,7 +87,7 @@ module _ (n : ℕ) (l : Literal) (e : offered (pos n) ≡ Fine l) where
 -- ---- with a gap in front
 
 module _ (s : List ℕ) (at : ℕ) where
-  pub member-not : space_run s at (length s) ≡ 0 → member_at s at ≡ SignedRead.Broken
+  pub member-not : space_run s at (length s) ≡ 0 → member_at s at ≡ None
   unfolding member_at
   member-not e = rw (eq-eqb (space_run s at (length s)) 0 e)
 
@@ -99,19 +98,19 @@ module _ (s : List ℕ) (at : ℕ) where
 -- ---- behind the closing 0
 
 module _ (s : List ℕ) (at : ℕ) (lits : Lits) (above : Bool) where
-  pub closed_is : get_or s at 0 ≡ line_feed → closed_at s at lits above ≡ Gathered.Members lits above (at + 1)
+  pub closed_is : get_or s at 0 ≡ line_feed → closed_at s at lits above ≡ Some (record { lits = lits; above = above; next = at + 1 })
   unfolding closed_at
   closed_is e = rw (eq-eqb (get_or s at 0) line_feed e)
 
-  pub closed-not : (get_or s at 0 ≡ line_feed → ⊥) → closed_at s at lits above ≡ Gathered.Broken
+  pub closed-not : (get_or s at 0 ≡ line_feed → ⊥) → closed_at s at lits above ≡ None
   unfolding closed_at
   closed-not h = rw (ne_eqb (get_or s at 0) line_feed h)
 
 -- ---- the definition behind a member
 
-abbrev on_read : {A : Type 0} → SignedRead → A → (ℤ → ℕ → A) → A
-on_read (SignedRead.Signed n negative next) broken go = go (of_sign negative n) next
-on_read SignedRead.Broken broken go = broken
+abbrev on_read : {A : Type 0} → Option SignedRead → A → (ℤ → ℕ → A) → A
+on_read (Some signed) broken go = go (of_sign signed.negative signed.size) signed.next
+on_read None broken go = broken
 
 signed_by : {A : Type 0} (s : List ℕ) (at : ℕ) (broken : A) (go : ℤ → ℕ → A) → on_signed s at broken go ≡ on_read (signed_at s at) broken go
 unfolding signed_at
@@ -122,21 +121,21 @@ signed_by {A} s at broken go = by (eqb (get_or s at 0) minus) (number_at s (at +
     whole (negsuc n) next = refl
 
     not-zero : (b : Bool) (l : ℤ) (next : ℕ)
-        → cond b broken (go l next) ≡ on_read (cond b SignedRead.Broken (signed_read l next)) broken go
+        → cond b broken (go l next) ≡ on_read (cond b None (signed_read l next)) broken go
     not-zero true l next = refl
     not-zero false l next = whole l next
 
-    by : (b : Bool) (p q : Parsed)
+    by : (b : Bool) (p q : Option (ℕ × ℕ))
         → cond b (on_number p broken (λ v next. cond (eqb v 0) broken (go (neg_ℤ (pos v)) next))) (on_number q broken (λ v next. go (pos v) next))
         ≡ on_read
         (cond b
-        (on_number p SignedRead.Broken (λ v next. cond (eqb v 0) SignedRead.Broken (signed_read (neg_ℤ (pos v)) next)))
-        (on_number q SignedRead.Broken (λ v next. signed_read (pos v) next)))
+        (on_number p None (λ v next. cond (eqb v 0) None (signed_read (neg_ℤ (pos v)) next)))
+        (on_number q None (λ v next. signed_read (pos v) next)))
         broken go
-    by true Parsed.Broken q = refl
-    by true (Parsed.Number v next) q = not-zero (eqb v 0) (neg_ℤ (pos v)) next
-    by false p Parsed.Broken = refl
-    by false p (Parsed.Number v next) = refl
+    by true None q = refl
+    by true (Some (v, next)) q = not-zero (eqb v 0) (neg_ℤ (pos v)) next
+    by false p None = refl
+    by false p (Some (v, next)) = refl
 
 abbrev onward : ℕ → List ℕ → ℤ → ℕ → MembersRead
 onward k s l next =
@@ -150,7 +149,7 @@ members-by k s at = go (eqb (space_run s at (length s)) 0)
   where
     go : (b : Bool)
         → cond b broken_line (on_signed s (at + space_run s at (length s)) broken_line (onward k s))
-        ≡ on_read (cond b SignedRead.Broken (signed_at s (at + space_run s at (length s)))) broken_line (onward k s)
+        ≡ on_read (cond b None (signed_at s (at + space_run s at (length s)))) broken_line (onward k s)
     go true = refl
     go false = signed_by s (at + space_run s at (length s)) broken_line (onward k s)
 
@@ -160,31 +159,31 @@ gather-more : (variables : ℕ) (lits : Lits) (above : Bool) (l : ℤ) (r : Memb
     → gathered variables lits above (with_member l r) ≡ gathered variables (together lits (lits_of l)) (above || ltb variables (size l)) r
 unfolding lits_of_members some_above
 gather-more variables lits above l (members ls next) =
-    ap₂ (λ (k : Lits) (b : Bool). Gathered.Members k b next)
+    ap₂ (λ (k : Lits) (b : Bool). Some (record { lits = k; above = b; next = next }))
     (sym (together-assoc lits (lits_of l) (lits_of_members ls)))
     (sym (or_assoc above (ltb variables (size l)) (some_above variables ls)))
 gather-more variables lits above l broken_line = refl
 
-gather_none : (variables : ℕ) (lits : Lits) (above : Bool) (next : ℕ) → gathered variables lits above (members [] next) ≡ Gathered.Members lits above next
+gather_none : (variables : ℕ) (lits : Lits) (above : Bool) (next : ℕ) → gathered variables lits above (members [] next) ≡ Some (record { lits = lits; above = above; next = next })
 unfolding lits_of_members some_above
-gather_none variables lits above next = ap₂ (λ (k : Lits) (b : Bool). Gathered.Members k b next) (together-none lits) (or-false above)
+gather_none variables lits above next = ap₂ (λ (k : Lits) (b : Bool). Some (record { lits = k; above = b; next = next })) (together-none lits) (or-false above)
 
 module _ (variables : ℕ) (lits : Lits) (above : Bool) (s : List ℕ) (at : ℕ) where
   -- what is gathered of the members that j turns may still read
-  abbrev pub gathered_from : ℕ → Gathered
+  abbrev pub gathered_from : ℕ → Option Gathered
   gathered_from j = gathered variables lits above (members_from j s at)
 
-  pub gather-end : gathered_from 0 ≡ Gathered.Broken
+  pub gather-end : gathered_from 0 ≡ None
   unfolding members_from
   gather-end = refl
 
-  pub gather-stuck : (k : ℕ) → member_at s at ≡ SignedRead.Broken → gathered_from (suc k) ≡ Gathered.Broken
+  pub gather-stuck : (k : ℕ) → member_at s at ≡ None → gathered_from (suc k) ≡ None
   gather-stuck k e =
-      ap (gathered variables lits above) (members-by k s at ∙ ap (λ (r : SignedRead). on_read r broken_line (onward k s)) e)
+      ap (gathered variables lits above) (members-by k s at ∙ ap (λ (r : Option SignedRead). on_read r broken_line (onward k s)) e)
 
-  module _ (k n : ℕ) (negative : Bool) (next : ℕ) (e : member_at s at ≡ SignedRead.Signed n negative next) where
+  module _ (k n : ℕ) (negative : Bool) (next : ℕ) (e : member_at s at ≡ Some (record { size = n; negative = negative; next = next })) where
     behind : members_from (suc k) s at ≡ onward k s (of_sign negative n) next
-    behind = members-by k s at ∙ ap (λ (r : SignedRead). on_read r broken_line (onward k s)) e
+    behind = members-by k s at ∙ ap (λ (r : Option SignedRead). on_read r broken_line (onward k s)) e
 
     pub gather-closing : n ≡ 0 → gathered_from (suc k) ≡ closed_at s next lits above
     unfolding closed_at
@@ -194,7 +193,7 @@ module _ (variables : ℕ) (lits : Lits) (above : Bool) (s : List ℕ) (at : ℕ
         ap (gathered variables lits above) (behind ∙ go) ∙ by (eqb (get_or s next 0) line_feed)
       where
         by : (b : Bool)
-            → gathered variables lits above (cond b (members [] (next + 1)) broken_line) ≡ cond b (Gathered.Members lits above (next + 1)) Gathered.Broken
+            → gathered variables lits above (cond b (members [] (next + 1)) broken_line) ≡ cond b (Some (record { lits = lits; above = above; next = next + 1 })) None
         by true = gather_none variables lits above (next + 1)
         by false = refl
 
@@ -211,29 +210,29 @@ module _ (variables : ℕ) (lits : Lits) (above : Bool) (s : List ℕ) (at : ℕ
 -- ---- the clause
 
 module _ (variables : ℕ) (s : List ℕ) (at : ℕ) where
-  pub no-weight : number_at s at ≡ Parsed.Broken → clause_at variables s at ≡ ClauseRead.Broken
+  pub no-weight : number_at s at ≡ None → clause_at variables s at ≡ None
   unfolding clause_at
   no-weight e = rw e
 
-  module _ (w next : ℕ) (e : number_at s at ≡ Parsed.Number w next) where
-    abbrev made : MembersRead → ClauseRead
-    made r = on_members r ClauseRead.Broken (λ ls end. ClauseRead.Clause w (lits_of_members ls) (bad_members variables ls) end)
+  module _ (w next : ℕ) (e : number_at s at ≡ Some (w, next)) where
+    abbrev made : MembersRead → Option ClauseRead
+    made r = on_members r None (λ ls end. Some (record { weight = w; lits = lits_of_members ls; bad = bad_members variables ls; next = end }))
 
-    pub no-members : gathered variables no_lits false (members_from (length s) s next) ≡ Gathered.Broken → clause_at variables s at ≡ ClauseRead.Broken
+    pub no-members : gathered variables no_lits false (members_from (length s) s next) ≡ None → clause_at variables s at ≡ None
     unfolding clause_at
     no-members g = rw e (go (members_from (length s) s next) g)
       where
-        go : (r : MembersRead) → gathered variables no_lits false r ≡ Gathered.Broken → made r ≡ ClauseRead.Broken
+        go : (r : MembersRead) → gathered variables no_lits false r ≡ None → made r ≡ None
         go (members ls end) h = impossible (cc)
         go broken_line h = refl
 
     pub clause-is : (lits : Lits) (above : Bool) (end : ℕ) (bad : Bool)
-        → gathered variables no_lits false (members_from (length s) s next) ≡ Gathered.Members lits above end
-        → bad ≡ bad_lits variables lits → ClauseRead.Clause w lits (above || bad) end ≡ clause_at variables s at
+        → gathered variables no_lits false (members_from (length s) s next) ≡ Some (record { lits = lits; above = above; next = end })
+        → bad ≡ bad_lits variables lits → Some (record { weight = w; lits = lits; bad = above || bad; next = end }) ≡ clause_at variables s at
     unfolding clause_at bad_members
     clause-is lits above end bad g b = rw e (go (members_from (length s) s next) g)
       where
-        go : (m : MembersRead) → gathered variables no_lits false m ≡ Gathered.Members lits above end → ClauseRead.Clause w lits (above || bad) end ≡ made m
+        go : (m : MembersRead) → gathered variables no_lits false m ≡ Some (record { lits = lits; above = above; next = end }) → Some (record { weight = w; lits = lits; bad = above || bad; next = end }) ≡ made m
         go (members ls far) h =
             let same : together no_lits (lits_of_members ls) ≡ lits = cc in
             let is : lits_of_members ls ≡ lits = sym (none-together (lits_of_members ls)) ∙ same in

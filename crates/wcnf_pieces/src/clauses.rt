@@ -6,44 +6,39 @@ ghost use Rattle.rules.specs.WcnfReader.{members_from};
 ghost use Rattle.wcnf_pieces.specs.Clauses.{signed_at, member_at, of_sign, closed_at, gathered, clause_at};
 
 use crate::{ClauseRead, Gathered, SignedRead};
-use literals::{Literal, Lits, Offered};
-use rules::Parsed;
+use literals::{Literal, Lits};
 use values::bad_lits;
 
 // A signed number: a minus stands before a negative one, which is not 0.
-fn signed_at(s: &[u8], at: usize) -> SignedRead
+fn signed_at(s: &[u8], at: usize) -> Option<SignedRead>
     ensures { result ≡ signed_at s.now at }
 {
     if pieces_read::byte_at(s, at) != b'-' {
-        let Parsed::Number { value, next } = pieces_read::number_at(s, at) else {
-            return SignedRead::Broken;
-        };
-        return SignedRead::Signed {
-            size: value,
+        let (size, next) = pieces_read::number_at(s, at)?;
+        return Some(SignedRead {
+            size,
             negative: false,
             next,
-        };
+        });
     }
-    let Parsed::Number { value, next } = pieces_read::number_at(s, at + 1) else {
-        return SignedRead::Broken;
-    };
-    if value == 0 {
-        return SignedRead::Broken;
+    let (size, next) = pieces_read::number_at(s, at + 1)?;
+    if size == 0 {
+        return None;
     }
-    SignedRead::Signed {
-        size: value,
+    Some(SignedRead {
+        size,
         negative: true,
         next,
-    }
+    })
 }
 
 // A signed number with a gap in front.
-fn member_at(s: &[u8], at: usize) -> SignedRead
+fn member_at(s: &[u8], at: usize) -> Option<SignedRead>
     ensures { result ≡ member_at s.now at }
 {
     let gap = gaps_read::space_run(s, at);
     if gap == 0 {
-        return SignedRead::Broken;
+        return None;
     }
     let from = at + gap;
     signed_at(s, from)
@@ -56,7 +51,7 @@ fn lits_of_signed(size: u64, negative: bool) -> Lits
     if Literal::MOST < size {
         return Lits::none();
     }
-    let Offered::Fine(literal) = Literal::new(size as i64) else {
+    let Some(literal) = Literal::new(size as i64) else {
         return Lits::none();
     };
     if negative {
@@ -73,19 +68,19 @@ fn with_member(lits: Lits, one: Lits) -> Lits
 }
 
 // What is behind the closing 0 is the line's end.
-fn closed(s: &[u8], at: usize, lits: Lits, above: bool) -> Gathered
+fn closed(s: &[u8], at: usize, lits: Lits, above: bool) -> Option<Gathered>
     ensures { result ≡ closed_at s.now at lits above }
 {
     let ended = pieces_read::byte_at(s, at) == b'\n';
     if ended {
         let next = at + 1;
-        return Gathered::Members { lits, above, next };
+        return Some(Gathered { lits, above, next });
     }
-    Gathered::Broken
+    None
 }
 
 // The members up to the closing 0. There can be no more of them than bytes, so that the turns are counted.
-fn members_from(s: &[u8], from: usize, variables: u64) -> Gathered
+fn members_from(s: &[u8], from: usize, variables: u64) -> Option<Gathered>
     ensures { result ≡ gathered variables no_lits false (members_from (length s.now) s.now from) }
 {
     let mut lits = Lits::none();
@@ -93,14 +88,11 @@ fn members_from(s: &[u8], from: usize, variables: u64) -> Gathered
     let mut at = from;
     let mut i = 0;
     while i < s.len() {
-        let SignedRead::Signed {
+        let SignedRead {
             size,
             negative,
             next,
-        } = member_at(s, at)
-        else {
-            return Gathered::Broken;
-        };
+        } = member_at(s, at)?;
         if size == 0 {
             return closed(s, next, lits, above);
         }
@@ -109,28 +101,20 @@ fn members_from(s: &[u8], from: usize, variables: u64) -> Gathered
         at = next;
         i += 1;
     }
-    Gathered::Broken
+    None
 }
 
 // A clause's line.
-pub fn clause_at(s: &[u8], at: usize, variables: u64) -> ClauseRead
+pub fn clause_at(s: &[u8], at: usize, variables: u64) -> Option<ClauseRead>
     ensures { result ≡ clause_at variables s.now at }
 {
-    let Parsed::Number {
-        value: weight,
-        next,
-    } = pieces_read::number_at(s, at)
-    else {
-        return ClauseRead::Broken;
-    };
-    let Gathered::Members { lits, above, next } = members_from(s, next, variables) else {
-        return ClauseRead::Broken;
-    };
+    let (weight, next) = pieces_read::number_at(s, at)?;
+    let Gathered { lits, above, next } = members_from(s, next, variables)?;
     let bad = above | bad_lits(variables, lits);
-    ClauseRead::Clause {
+    Some(ClauseRead {
         weight,
         lits,
         bad,
         next,
-    }
+    })
 }

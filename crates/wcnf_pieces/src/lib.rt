@@ -10,34 +10,25 @@ pub use clauses::clause_at;
 
 // A signed number of a text, which need be no literal, by its size and sign, and the place behind it.
 #[derive(Clone, Copy)]
-pub enum SignedRead {
-    Signed {
-        size: u64,
-        negative: bool,
-        next: usize,
-    },
-    Broken,
+pub struct SignedRead {
+    pub size: u64,
+    pub negative: bool,
+    pub next: usize,
 }
 
 // The literals of a clause as a set, whether one is above the count, and the place behind the clause's line.
 #[derive(Clone, Copy)]
-pub enum Gathered {
-    Members {
-        lits: Lits,
-        above: bool,
-        next: usize,
-    },
-    Broken,
+pub struct Gathered {
+    pub lits: Lits,
+    pub above: bool,
+    pub next: usize,
 }
 
 // A clause by its weight and its literals, whether these are bad, and the place behind its line.
 #[derive(Clone, Copy)]
-pub enum ClauseRead {
-    Clause {
-        weight: u64,
-        lits: Lits,
-        bad: bool,
-        next: usize,
-    },
-    Broken,
+pub struct ClauseRead {
+    pub weight: u64,
+    pub lits: Lits,
+    pub bad: bool,
+    pub next: usize,
 }

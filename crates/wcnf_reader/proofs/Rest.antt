@@ -1,5 +1,6 @@
 -- What is read behind the header, refused or fine, is what the whole text comes to. Where all is fine there is room for the words, so that
 -- storing them one by one is putting them in front of the rest.
+use Rattle.std.specs.Prelude.{Result, Ok, Err}
 use Prim.Native.Nat.{ℕ, suc, ◌+◌, ◌*◌, ◌<◌, ◌≤◌}
 use mathlib.Core.Path.{◌≡◌, refl, ◌∙◌}
 use mathlib.Core.List.{List}
@@ -12,38 +13,37 @@ use lib.Seq.{sets, sets-eq}
 use Rattle.literals.specs.Literal.{most_variables}
 use Rattle.rules.specs.declared.Refusal.{Refusal}
 use Rattle.rules.specs.declared.Refusal.TheVariants.{TooManyVariables, BadTable, NoRoom, BadText}
-use Rattle.rules.specs.declared.Judged.{Judged}
-use Rattle.rules.specs.declared.Judged.TheVariants.{Fine, Refused}
-use Rattle.rules.specs.declared.WcnfHead.{WcnfHead}
+use Rattle.rules.specs.Refusals.{Judged}
 use Rattle.rules.specs.declared.WcnfRead.{WcnfRead}
 use Rattle.rules.specs.Table.{row_words}
-use Rattle.rules.specs.WcnfReader.{header_of, clauses_why, header_why, wcnf_read_why, clauses_words, wcnf_words, wcnf_read, wcnf_table}
+use Rattle.rules.specs.WcnfReader.{header_of, clauses_why, header_why, wcnf_read_why, clauses_words, wcnf_words, wcnf_read, wcnf_table, file_says}
 use Rattle.rules.proofs.Judging.{refuse-fine}
 use Rattle.text_laws.proofs.Matched.{matched}
 use Rattle.wcnf_reader.specs.Behind.{read_behind, stored_behind}
 use Rattle.wcnf_headers.proofs.Heading.{line_small}
 use Rattle.wcnf_reader.proofs.Turns.{words-length}
+use Rattle.rules.specs.WcnfReader.{header_says}
 
 -- ---- the header's figures, in order
 
 module _ (most : ℕ) (s : List ℕ) (room n m top next line : ℕ) where
   abbrev why : Judged
-  why = header_why most s room (WcnfHead.Figures n m top next line)
+  why = header_why most s room (Ok (header_says n m top next line))
 
-  pub over-variables : most_variables < n → why ≡ Refused TooManyVariables
+  pub over-variables : most_variables < n → why ≡ Err TooManyVariables
   over-variables h = rw (lt-ltb most_variables n h)
 
-  pub over-rows : n ≤ most_variables → most < m → why ≡ Refused BadTable
+  pub over-rows : n ≤ most_variables → most < m → why ≡ Err BadTable
   over-rows g h = rw (le-ltb most_variables n g, lt-ltb most m h)
 
-  pub over-room : n ≤ most_variables → m ≤ most → room < row_words * m → why ≡ Refused NoRoom
+  pub over-room : n ≤ most_variables → m ≤ most → room < row_words * m → why ≡ Err NoRoom
   over-room g h i = rw (le-ltb most_variables n g, le-ltb most m h, lt-ltb room (row_words * m) i)
 
   pub by-clauses : (j : Judged) → n ≤ most_variables → m ≤ most → row_words * m ≤ room → j ≡ clauses_why m 0 n s next (line + 1) → j ≡ why
   by-clauses j g h i e = rw (le-ltb most_variables n g, le-ltb most m h, le-ltb room (row_words * m) i) e
 
   -- where all is fine there is room
-  fits : why ≡ Fine → row_words * m ≤ room
+  fits : why ≡ Ok tt → row_words * m ≤ room
   fits e =
       let p1 = refuse-fine (ltb most_variables n) TooManyVariables _ e in
       let p2 = refuse-fine (ltb most m) BadTable _ p1.1 in
@@ -51,56 +51,56 @@ module _ (most : ℕ) (s : List ℕ) (room n m top next line : ℕ) where
       ltb-false room (row_words * m) p3.0
 
 -- the header's line is one of the text's
-pub head-line : (s : List ℕ) (n m top next line : ℕ) → header_of s ≡ WcnfHead.Figures n m top next line → line ≤ length s + 1
+pub head-line : (s : List ℕ) (n m top next line : ℕ) → header_of s ≡ Ok (header_says n m top next line) → line ≤ length s + 1
 unfolding header_of
 head-line s n m top next line e = omega (arith, line_small (suc (length s)) s 0 1 n m top next line e)
 
 -- ---- behind the header
 
 module _ (most : ℕ) (s table : List ℕ) (n m top next line : ℕ) (j : Judged)
-    (why-is : j ≡ header_why most s (length table) (WcnfHead.Figures n m top next line)) where
-  abbrev answer : WcnfRead
+    (why-is : j ≡ header_why most s (length table) (Ok (header_says n m top next line))) where
+  abbrev answer : Result WcnfRead Refusal
   answer = read_behind most s (length table) n m top next line
 
   abbrev words : List ℕ
   words = stored_behind most s table n m top next line
 
-  pub behind-refused : (r : Refusal) → j ≡ Refused r → (WcnfRead.Refused r ≡ answer) × (table ≡ words)
+  pub behind-refused : (r : Refusal) → j ≡ Err r → (Err r ≡ answer) × (table ≡ words)
   unfolding read_behind stored_behind
   behind-refused r e = let f = matched why-is e in (rw f, rw f)
 
-  pub behind-fine : j ≡ Fine → (WcnfRead.Table n m ≡ answer) × (sets table 0 (clauses_words m top s next) ≡ words)
+  pub behind-fine : j ≡ Ok tt → (Ok (file_says n m) ≡ answer) × (sets table 0 (clauses_words m top s next) ≡ words)
   unfolding read_behind stored_behind
   behind-fine e = let f = matched why-is e in (rw f, rw f)
 
   -- what storing the rows expects
-  pub behind-room : j ≡ Fine → row_words * m ≤ length table
+  pub behind-room : j ≡ Ok tt → row_words * m ≤ length table
   behind-room e = fits most s (length table) n m top next line (matched why-is e)
 
 -- ---- the whole text
 
 module _ (most : ℕ) (s table : List ℕ) where
-  pub read-broken : (line : ℕ) → header_of s ≡ WcnfHead.Broken line
-      → (WcnfRead.Refused (BadText line) ≡ wcnf_read most s (length table)) × (table ≡ wcnf_table most s table)
+  pub read-broken : (line : ℕ) → header_of s ≡ Err line
+      → (Err (BadText line) ≡ wcnf_read most s (length table)) × (table ≡ wcnf_table most s table)
   unfolding wcnf_read wcnf_table wcnf_read_why
   read-broken line e = (rw e, rw e)
 
-  module _ (n m top next line : ℕ) (h : header_of s ≡ WcnfHead.Figures n m top next line) where
+  module _ (n m top next line : ℕ) (h : header_of s ≡ Ok (header_says n m top next line)) where
     answer-is : read_behind most s (length table) n m top next line ≡ wcnf_read most s (length table)
     unfolding read_behind wcnf_read wcnf_read_why
     answer-is = rw h
 
-    words_are : (j : Judged) → header_why most s (length table) (WcnfHead.Figures n m top next line) ≡ j
+    words_are : (j : Judged) → header_why most s (length table) (Ok (header_says n m top next line)) ≡ j
         → stored_behind most s table n m top next line ≡ wcnf_table most s table
     unfolding stored_behind wcnf_table wcnf_read_why wcnf_words
-    words_are Fine e =
+    words_are (Ok _) e =
         let words = clauses_words m top s next in
         let room : 0 + length words ≤ length table = omega (arith, words-length m top s next, fits most s (length table) n m top next line e) in
         rw (h, e) (sets-eq words table 0 room ∙ rw (zero-add (length words)))
-    words_are (Refused r) e = rw (h, e)
+    words_are (Err r) e = rw (h, e)
 
-    pub behind-read : (answer : WcnfRead) (after : List ℕ)
+    pub behind-read : (answer : Result WcnfRead Refusal) (after : List ℕ)
         → (answer ≡ read_behind most s (length table) n m top next line) × (after ≡ stored_behind most s table n m top next line)
         → (answer ≡ wcnf_read most s (length table)) × (after ≡ wcnf_table most s table)
     behind-read answer after rest =
-        (rest.0 ∙ answer-is, rest.1 ∙ words_are (header_why most s (length table) (WcnfHead.Figures n m top next line)) refl)
+        (rest.0 ∙ answer-is, rest.1 ∙ words_are (header_why most s (length table) (Ok (header_says n m top next line))) refl)

@@ -1,4 +1,5 @@
 -- The clauses, one at a time: what the judgement and the words come to behind a clause that was read, and behind one that breaks the form.
+use Rattle.std.specs.Prelude.{Option, Some, None, Ok, Err}
 use Prim.Native.Nat.{ℕ, zero, suc, ◌+◌, ◌-◌, ◌*◌, ◌<◌, ◌≤◌}
 use mathlib.Core.Path.{◌≡◌, refl, sym, ap, ◌∙◌}
 use mathlib.Core.Bool.{Bool, true, false}
@@ -13,9 +14,7 @@ use Rattle.masks.proofs.Choice.{impossible}
 use Rattle.masks.proofs.Words.{sets-append}
 use Rattle.literals.specs.declared.Lits.{Lits}
 use Rattle.rules.specs.declared.Row.{Row}
-use Rattle.rules.specs.declared.Parsed.{Parsed}
 use Rattle.rules.specs.declared.Refusal.TheVariants.{BadText, BadLiterals}
-use Rattle.rules.specs.declared.Judged.TheVariants.{Fine, Refused}
 use Rattle.rules.specs.Reader.{number_at, on_number}
 use Rattle.rules.specs.Table.{row_words, new_row, hard_row, row_words_of}
 use Rattle.rules.specs.WcnfReader.{MembersRead, members, broken_line, members_from, on_members, on_clause, lits_of_members, bad_members}
@@ -27,67 +26,67 @@ use Rattle.wcnf_pieces.specs.Clauses.{clause_at}
 -- ---- what a clause that was read is
 
 -- a clause of this weight, by its members
-abbrev behind : ℕ → ℕ → MembersRead → ClauseRead
-behind variables w r = on_members r ClauseRead.Broken (λ ls end. ClauseRead.Clause w (lits_of_members ls) (bad_members variables ls) end)
+abbrev behind : ℕ → ℕ → MembersRead → Option ClauseRead
+behind variables w r = on_members r None (λ ls end. Some (record { weight = w; lits = lits_of_members ls; bad = bad_members variables ls; next = end }))
 
 pub record Told (variables : ℕ) (s : List ℕ) (at w : ℕ) (lits : Lits) (bad : Bool) (next : ℕ) : Type 0 where
   pub middle : ℕ
   pub signed : List ℤ
-  pub number : number_at s at ≡ Parsed.Number w middle
+  pub number : number_at s at ≡ Some (w, middle)
   pub read : members_from (length s) s middle ≡ members signed next
   pub made : lits_of_members signed ≡ lits
   pub judged : bad_members variables signed ≡ bad
 
-pub told : (variables : ℕ) (s : List ℕ) (at w : ℕ) (lits : Lits) (bad : Bool) (next : ℕ) → clause_at variables s at ≡ ClauseRead.Clause w lits bad next
+pub told : (variables : ℕ) (s : List ℕ) (at w : ℕ) (lits : Lits) (bad : Bool) (next : ℕ) → clause_at variables s at ≡ Some (record { weight = w; lits = lits; bad = bad; next = next })
     → Told variables s at w lits bad next
 unfolding clause_at
 told variables s at w lits bad next e = weight (number_at s at) refl e
   where
-    signs : (v mid : ℕ) → number_at s at ≡ Parsed.Number v mid → (r : MembersRead) → members_from (length s) s mid ≡ r
-        → behind variables v r ≡ ClauseRead.Clause w lits bad next → Told variables s at w lits bad next
+    signs : (v mid : ℕ) → number_at s at ≡ Some (v, mid) → (r : MembersRead) → members_from (length s) s mid ≡ r
+        → behind variables v r ≡ Some (record { weight = w; lits = lits; bad = bad; next = next }) → Told variables s at w lits bad next
     signs v mid n (members ls end) m h =
         let weighs : v ≡ w = cc in
         let there : end ≡ next = cc in
         record {
           middle = mid;
           signed = ls;
-          number = n ∙ ap (λ (x : ℕ). Parsed.Number x mid) weighs;
+          number = n ∙ ap (λ (x : ℕ). Some (x, mid)) weighs;
           read = m ∙ ap (members ls) there;
           made = cc;
           judged = cc;
         }
     signs v mid n broken_line m h = impossible (cc)
 
-    weight : (p : Parsed) → number_at s at ≡ p
-        → on_number p ClauseRead.Broken (λ v mid. behind variables v (members_from (length s) s mid)) ≡ ClauseRead.Clause w lits bad next
+    weight : (p : Option (ℕ × ℕ)) → number_at s at ≡ p
+        → on_number p None (λ v mid. behind variables v (members_from (length s) s mid)) ≡ Some (record { weight = w; lits = lits; bad = bad; next = next })
         → Told variables s at w lits bad next
-    weight (Parsed.Number v mid) n h = signs v mid n (members_from (length s) s mid) refl h
-    weight Parsed.Broken n h = impossible (cc)
+    weight (Some (v, mid)) n h = signs v mid n (members_from (length s) s mid) refl h
+    weight None n h = impossible (cc)
 
 -- and one that breaks the form
-broken-clause : {A : Type 0} (variables : ℕ) (s : List ℕ) (at : ℕ) (broken : A) (go : ℕ → List ℤ → ℕ → A) → clause_at variables s at ≡ ClauseRead.Broken
+broken-clause : {A : Type 0} (variables : ℕ) (s : List ℕ) (at : ℕ) (broken : A) (go : ℕ → List ℤ → ℕ → A) → clause_at variables s at ≡ None
     → on_clause s at broken go ≡ broken
 unfolding clause_at
 broken-clause {A} variables s at broken go e = weight (number_at s at) e
   where
-    signs : (w : ℕ) (r : MembersRead) → behind variables w r ≡ ClauseRead.Broken → on_members r broken (go w) ≡ broken
+    signs : (w : ℕ) (r : MembersRead) → behind variables w r ≡ None → on_members r broken (go w) ≡ broken
     signs w (members ls end) h = impossible (cc)
     signs w broken_line h = refl
 
-    weight : (p : Parsed) → on_number p ClauseRead.Broken (λ w mid. behind variables w (members_from (length s) s mid)) ≡ ClauseRead.Broken
+    weight : (p : Option (ℕ × ℕ)) → on_number p None (λ w mid. behind variables w (members_from (length s) s mid)) ≡ None
         → on_number p broken (λ w mid. on_members (members_from (length s) s mid) broken (go w)) ≡ broken
-    weight (Parsed.Number w mid) h = signs w (members_from (length s) s mid) h
-    weight Parsed.Broken h = refl
+    weight (Some (w, mid)) h = signs w (members_from (length s) s mid) h
+    weight None h = refl
 
 -- ---- line by line 20, 5
 
 module _ (k i variables : ℕ) (s : List ℕ) (at line : ℕ) where
-  pub why-broken : clause_at variables s at ≡ ClauseRead.Broken → clauses_why (suc k) i variables s at line ≡ Refused (BadText line)
+  pub why-broken : clause_at variables s at ≡ None → clauses_why (suc k) i variables s at line ≡ Err (BadText line)
   unfolding clauses_why
-  why-broken e = broken-clause variables s at (Refused (BadText line)) _ e
+  why-broken e = broken-clause variables s at (Err (BadText line)) _ e
 
-  module _ (w : ℕ) (lits : Lits) (bad : Bool) (next : ℕ) (e : clause_at variables s at ≡ ClauseRead.Clause w lits bad next) where
-    pub why-bad : bad ≡ true → clauses_why (suc k) i variables s at line ≡ Refused (BadLiterals i)
+  module _ (w : ℕ) (lits : Lits) (bad : Bool) (next : ℕ) (e : clause_at variables s at ≡ Some (record { weight = w; lits = lits; bad = bad; next = next })) where
+    pub why-bad : bad ≡ true → clauses_why (suc k) i variables s at line ≡ Err (BadLiterals i)
     unfolding clauses_why
     why-bad b = let t = told variables s at w lits bad next e in rw (t.number, t.read, t.judged, b)
 
@@ -97,11 +96,11 @@ module _ (k i variables : ℕ) (s : List ℕ) (at line : ℕ) where
 
 -- and that nothing follows
 module _ (i variables : ℕ) (s : List ℕ) (at line : ℕ) where
-  pub why-end : eqb at (length s) ≡ true → clauses_why 0 i variables s at line ≡ Fine
+  pub why-end : eqb at (length s) ≡ true → clauses_why 0 i variables s at line ≡ Ok tt
   unfolding clauses_why
   why-end e = rw e
 
-  pub why-surplus : eqb at (length s) ≡ false → clauses_why 0 i variables s at line ≡ Refused (BadText line)
+  pub why-surplus : eqb at (length s) ≡ false → clauses_why 0 i variables s at line ≡ Err (BadText line)
   unfolding clauses_why
   why-surplus e = rw e
 
@@ -117,11 +116,11 @@ module _ (top w : ℕ) (lits : Lits) where
 -- ---- the words
 
 module _ (k variables top : ℕ) (s : List ℕ) (at : ℕ) where
-  pub words-broken : clause_at variables s at ≡ ClauseRead.Broken → clauses_words (suc k) top s at ≡ []
+  pub words-broken : clause_at variables s at ≡ None → clauses_words (suc k) top s at ≡ []
   unfolding clauses_words
   words-broken e = broken-clause variables s at [] _ e
 
-  pub words-next : (w : ℕ) (lits : Lits) (bad : Bool) (next : ℕ) → clause_at variables s at ≡ ClauseRead.Clause w lits bad next
+  pub words-next : (w : ℕ) (lits : Lits) (bad : Bool) (next : ℕ) → clause_at variables s at ≡ Some (record { weight = w; lits = lits; bad = bad; next = next })
       → clauses_words (suc k) top s at ≡ row_words_of (clause_row top w lits) ++ clauses_words k top s next
   unfolding clauses_words
   words-next w lits bad next e = let t = told variables s at w lits bad next e in rw (t.number, t.read, t.made)
@@ -132,13 +131,13 @@ words-none top s at = refl
 
 -- stored behind those that are: the words of the clauses from clause i on, of m
 module _ (top : ℕ) (s : List ℕ) (m i at : ℕ) (table : List ℕ) where
-  pub left-broken : (variables : ℕ) → i < m → clause_at variables s at ≡ ClauseRead.Broken
+  pub left-broken : (variables : ℕ) → i < m → clause_at variables s at ≡ None
       → sets table (row_words * i) (clauses_words (m - i) top s at) ≡ table
   left-broken variables h e =
       let left : m - i ≡ suc (m - (i + 1)) = omega arith in
       rw (left, words-broken (m - (i + 1)) variables top s at e)
 
-  pub left-stored : (variables w : ℕ) (lits : Lits) (bad : Bool) (next : ℕ) (row : Row) → i < m → clause_at variables s at ≡ ClauseRead.Clause w lits bad next
+  pub left-stored : (variables w : ℕ) (lits : Lits) (bad : Bool) (next : ℕ) (row : Row) → i < m → clause_at variables s at ≡ Some (record { weight = w; lits = lits; bad = bad; next = next })
       → row ≡ clause_row top w lits
       → sets (sets table (row_words * i) (row_words_of row)) (row_words * (i + 1)) (clauses_words (m - (i + 1)) top s next)
       ≡ sets table (row_words * i) (clauses_words (m - i) top s at)
@@ -163,8 +162,8 @@ words-length (suc m) top s at = weight (words-length m top s) (number_at s at)
         rw (length-append (row_words_of row) (clauses_words m top s next), row_words_lem row) (omega (arith, ih next))
     signs ih w broken_line = omega arith
 
-    weight : ((next : ℕ) → length (clauses_words m top s next) ≤ row_words * m) → (p : Parsed)
+    weight : ((next : ℕ) → length (clauses_words m top s next) ≤ row_words * m) → (p : Option (ℕ × ℕ))
         → length (on_number p [] (λ w mid. on_members (members_from (length s) s mid) [] (λ ls next.
         row_words_of (clause_row top w (lits_of_members ls)) ++ clauses_words m top s next))) ≤ row_words * suc m
-    weight ih (Parsed.Number w mid) = signs ih w (members_from (length s) s mid)
-    weight ih Parsed.Broken = omega arith
+    weight ih (Some (w, mid)) = signs ih w (members_from (length s) s mid)
+    weight ih None = omega arith

@@ -1,12 +1,11 @@
 // The clauses of a text: judged line by line, then read once more and stored.
-ghost use Rattle.std.specs.Prelude.{◌≡◌, ◌+◌, ◌*◌, ◌≤◌, eqb, length};
+ghost use Rattle.std.specs.Prelude.{◌≡◌, ◌+◌, ◌*◌, ◌≤◌, eqb, length, Ok};
 ghost use Rattle.std.proofs.lemmas.List.Edits.{sets};
-ghost use Rattle.rules.specs.declared.WcnfHead.{WcnfHead};
 ghost use Rattle.rules.specs.Table.{row_words, most_rows};
-ghost use Rattle.rules.specs.WcnfReader.{clauses_why, header_why, clause_row, clauses_words};
+ghost use Rattle.rules.specs.WcnfReader.{header_says, clauses_why, header_why, clause_row, clauses_words};
 
 use literals::{Literal, Lits};
-use rules::{Judged, Refusal, Row};
+use rules::{Refusal, Row};
 use wcnf_pieces::ClauseRead;
 
 // Nothing follows.
@@ -17,34 +16,25 @@ fn ends(s: &[u8], at: usize) -> bool
 }
 
 // The clauses, of which the first is on this line, and that nothing follows them: line by line 20, 5.
-fn clauses_why(s: &[u8], from: usize, clauses: u64, variables: u64, first: u64) -> Judged
+fn clauses_why(s: &[u8], from: usize, clauses: u64, variables: u64, first: u64) -> Result<(), Refusal>
     requires { (clauses ≤ most_rows) × (first ≤ length s.now + 2) }
     ensures { result ≡ clauses_why clauses 0 variables s.now from first }
 {
     let mut at = from;
     let mut i = 0;
     while i < clauses {
-        let ClauseRead::Clause {
-            weight: _,
-            lits: _,
-            bad,
-            next,
-        } = wcnf_pieces::clause_at(s, at, variables)
-        else {
-            let line = first + i;
-            return Judged::Refused(Refusal::BadText(line));
-        };
-        if bad {
-            return Judged::Refused(Refusal::BadLiterals(i));
+        let clause = wcnf_pieces::clause_at(s, at, variables).ok_or(Refusal::BadText(first + i))?;
+        if clause.bad {
+            return Err(Refusal::BadLiterals(i));
         }
-        at = next;
+        at = clause.next;
         i += 1;
     }
     if ends(s, at) {
-        return Judged::Fine;
+        return Ok(());
     }
     let line = first + clauses;
-    Judged::Refused(Refusal::BadText(line))
+    Err(Refusal::BadText(line))
 }
 
 // In the reader's order: 1, 2, 4, the clauses, which begin on the line behind the header's. Top has no part in it.
@@ -56,19 +46,19 @@ pub fn figures_why(
     clauses: u64,
     from: usize,
     line: u64,
-) -> Judged
+) -> Result<(), Refusal>
     requires { (most ≤ most_rows) × (line ≤ length s.now + 1) }
-    ensures { result ≡ header_why most s.now room (WcnfHead.Figures variables clauses 0 from line) }
+    ensures { result ≡ header_why most s.now room (Ok (header_says variables clauses 0 from line)) }
 {
     if variables > Literal::MOST {
-        return Judged::Refused(Refusal::TooManyVariables);
+        return Err(Refusal::TooManyVariables);
     }
     let count = clauses as usize;
     if count > most {
-        return Judged::Refused(Refusal::BadTable);
+        return Err(Refusal::BadTable);
     }
     if room < Row::WORDS * count {
-        return Judged::Refused(Refusal::NoRoom);
+        return Err(Refusal::NoRoom);
     }
     let first = line + 1;
     clauses_why(s, from, clauses, variables, first)
@@ -92,12 +82,12 @@ pub fn store_rows(s: &[u8], from: usize, rows: usize, top: u64, table: &mut [u64
     let mut at = from;
     let mut i = 0;
     while i < rows {
-        let ClauseRead::Clause {
+        let Some(ClauseRead {
             weight,
             lits,
             bad: _,
             next,
-        } = wcnf_pieces::clause_at(s, at, Literal::MOST)
+        }) = wcnf_pieces::clause_at(s, at, Literal::MOST)
         else {
             return;
         };

@@ -9,7 +9,7 @@ ghost use Rattle.pieces_written.specs.Stored.{Stored};
 ghost use Rattle.wcnf_writer.specs.Pieces.{header_text};
 
 use pieces_written::inner;
-use rules::{Judged, Refusal, Row, Written};
+use rules::{Refusal, Row};
 
 mod clauses;
 
@@ -51,20 +51,16 @@ fn put_file(out: &mut [u8], variables: u64, table: &[u64]) -> usize
 }
 
 // How many bytes the file has, which then stand at the front of those lent; or why none was written.
-pub fn write_wcnf(variables: u64, table: &[u64], out: &mut [u8]) -> Written
+pub fn write_wcnf(variables: u64, table: &[u64], out: &mut [u8]) -> Result<usize, Refusal>
     ensures answer { result ≡ wcnf_written variables table.now out.old }
     ensures bytes { out.new ≡ wcnf_out variables table.now out.old }
 {
-    match tables::table_why(variables, table) {
-        Judged::Refused(why) => Written::Refused(why),
-        Judged::Fine => {
-            let mut nowhere = [0u8; 1];
-            let n = put_file(&mut nowhere, variables, table);
-            if out.len() < n {
-                return Written::Refused(Refusal::NoRoom);
-            }
-            put_file(out, variables, table);
-            Written::Bytes(n)
-        }
+    tables::table_why(variables, table)?;
+    let mut nowhere = [0u8; 1];
+    let n = put_file(&mut nowhere, variables, table);
+    if out.len() < n {
+        return Err(Refusal::NoRoom);
     }
+    put_file(out, variables, table);
+    Ok(n)
 }

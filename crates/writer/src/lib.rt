@@ -8,7 +8,7 @@ ghost use Rattle.text_laws.specs.Pieces.{head_lines};
 ghost use Rattle.pieces_written.specs.Stored.{Stored};
 
 use pieces_written::inner;
-use rules::{Judged, Refusal, Row, Written};
+use rules::{Refusal, Row};
 
 mod rows;
 
@@ -31,21 +31,17 @@ fn put_table(out: &mut [u8], variables: u64, budget: u64, table: &[u64]) -> usiz
 }
 
 // How many bytes the text has, which then stand at the front of those lent; or why none was written.
-pub fn write(variables: u64, budget: u32, table: &[u64], out: &mut [u8]) -> Written
+pub fn write(variables: u64, budget: u32, table: &[u64], out: &mut [u8]) -> Result<usize, Refusal>
     ensures answer { result ≡ written variables budget table.now out.old }
     ensures bytes { out.new ≡ write_out variables budget table.now out.old }
 {
-    match tables::table_why(variables, table) {
-        Judged::Refused(why) => Written::Refused(why),
-        Judged::Fine => {
-            let most = budget as u64;
-            let mut nowhere = [0u8; 1];
-            let n = put_table(&mut nowhere, variables, most, table);
-            if out.len() < n {
-                return Written::Refused(Refusal::NoRoom);
-            }
-            put_table(out, variables, most, table);
-            Written::Bytes(n)
-        }
+    tables::table_why(variables, table)?;
+    let most = budget as u64;
+    let mut nowhere = [0u8; 1];
+    let n = put_table(&mut nowhere, variables, most, table);
+    if out.len() < n {
+        return Err(Refusal::NoRoom);
     }
+    put_table(out, variables, most, table);
+    Ok(n)
 }

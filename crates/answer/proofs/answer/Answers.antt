@@ -1,9 +1,9 @@
 -- `answer` meets its contract: the lines are counted first, then refused for want of room, or stored.
+use Rattle.std.specs.Prelude.{Ok}
 use mathlib.Core.Path.{refl, sym, ap, ◌∙◌, subst}
 use native.Mathlib.Nat.{zero-add}
 use lib.ListN.{length}
 use lib.Seq.{sets}
-use Rattle.rules.specs.declared.Written.{Written}
 use Rattle.text_laws.proofs.LentBytes.{text-no-room, text-stored}
 use Rattle.readings.specs.Line.{Counted}
 use Rattle.answer.proofs.Lengths.{outcome-counted}
@@ -30,6 +30,6 @@ returns c =
     let long = (c.put_outcome-n.ensures.place ∙ zero-add _) ∙ ap length lines in
     let fine = text-stored _ _ _ refl (rw long at c.if-output-n.false) in
     record {
-      answer = ap Written.Bytes long ∙ fine.0;
+      answer = ap Ok long ∙ fine.0;
       bytes = (c.put_outcome.ensures.bytes ∙ ap (sets c.args.output.now 0) lines) ∙ fine.1;
     }

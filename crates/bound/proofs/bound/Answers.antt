@@ -1,8 +1,8 @@
 -- `bound` meets its contract: a well-formed desk can be read, and any other is refused.
+use Rattle.std.specs.Prelude.{Ok}
 use mathlib.Core.Path.{sym, ap, ◌∙◌}
 use Rattle.rules.specs.declared.Part.{Part}
 use Rattle.rules.specs.declared.Losses.{Losses}
-use Rattle.rules.specs.declared.Bounded.{Bounded}
 use Rattle.rules.specs.Bound.{desk_why}
 use Rattle.rules.specs.Choice.{losses_by, bounded}
 use Rattle.desk_laws.proofs.Readable.{readable}
@@ -17,7 +17,7 @@ pub returns-then-well_formed : goal.returns-then-well_formed
 unfolding bounded desk_why
 returns-then-well_formed c =
     rw (sym c.well_formed-2.ensures ∙ c.if-well_formed.true)
-    (ap (λ (l : Losses). Bounded.Bound l) (c.losses_by.ensures ∙ ap (λ (p : Part). losses_by c.args.choice c.args.desk.now p) c.decisions-p.ensures))
+    (ap (λ (l : Losses). Ok l) (c.losses_by.ensures ∙ ap (λ (p : Part). losses_by c.args.choice c.args.desk.now p) c.decisions-p.ensures))
 
 pub returns-else-well_formed : goal.returns-else-well_formed
 unfolding bounded desk_why

@@ -1,7 +1,7 @@
 -- `search` meets its contract: a well-formed desk can be read, and any other is refused.
+use Rattle.std.specs.Prelude.{Ok}
 use mathlib.Core.Path.{sym, ap, ◌∙◌}
 use Rattle.rules.specs.declared.Found.{Found}
-use Rattle.rules.specs.declared.Searched.{Searched}
 use Rattle.rules.specs.Bound.{desk_why}
 use Rattle.rules.specs.Walk.{searched}
 use Rattle.desk_laws.proofs.Readable.{readable}
@@ -14,7 +14,7 @@ found_by_choice-requires c =
 
 pub returns-then-well_formed : goal.returns-then-well_formed
 unfolding searched desk_why
-returns-then-well_formed c = rw (sym c.well_formed-2.ensures ∙ c.if-well_formed.true) (ap (λ (x : Found). Searched.Found x) c.found_by_choice.ensures)
+returns-then-well_formed c = rw (sym c.well_formed-2.ensures ∙ c.if-well_formed.true) (ap (λ (x : Found). Ok x) c.found_by_choice.ensures)
 
 pub returns-else-well_formed : goal.returns-else-well_formed
 unfolding searched desk_why

@@ -1,7 +1,7 @@
 -- `write_wcnf` meets its contract: refused by the table, or for want of room, or written.
+use Rattle.std.specs.Prelude.{Ok}
 use mathlib.Core.Path.{ap, ◌∙◌}
 use native.Mathlib.Nat.{zero-add}
-use Rattle.rules.specs.declared.Written.{Written}
 use Rattle.rules.proofs.Admissible.{table-fine}
 use Rattle.text_laws.proofs.Matched.{matched}
 use Rattle.text_laws.proofs.LentBytes.{text-refused, text-no-room, text-stored}
@@ -43,6 +43,6 @@ returns-else-out-n c =
     let fine = text-stored _ _ _
     (matched c.table_why.ensures c.in-Fine.is) (rw long at c.if-out-n.false) in
     record {
-      answer = ap Written.Bytes long ∙ fine.0;
+      answer = ap Ok long ∙ fine.0;
       bytes = c.put_file.ensures.bytes ∙ fine.1;
     }

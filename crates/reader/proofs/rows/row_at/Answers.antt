@@ -1,7 +1,7 @@
 -- `row_at` meets its contract: the line of the weight, that of the mark, then that of the literals.
+use Rattle.std.specs.Prelude.{Ok}
 use mathlib.Core.Path.{sym, ap, ◌∙◌}
 use Rattle.rules.specs.declared.Row.{Row}
-use Rattle.rules.specs.declared.RowRead.{RowRead}
 use Rattle.text_laws.proofs.Matched.{matched}
 use Rattle.text_laws.proofs.Branches.{row-no-weight, row-no-mark, row-no-lits, row_is}
 use Rattle.reader.proofs.rows.row_at.Goals as goal
@@ -26,7 +26,7 @@ returns-in_default-lits_line c =
 
 pub returns : goal.returns
 returns c =
-    ap (λ (row : Row). RowRead.Lines row c.in-Literals.next) c.marked-row.ensures
+    ap (λ (row : Row). Ok (row, c.in-Literals.next)) c.marked-row.ensures
     ∙ sym
     (row_is c.args.s.now c.args.at c.args.line _ _ _ _
     (matched c.number_line.ensures c.in-Number.is)

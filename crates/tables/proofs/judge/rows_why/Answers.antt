@@ -1,7 +1,7 @@
+use Rattle.std.specs.Prelude.{Ok}
 use Prim.Native.Nat.{ℕ, ◌+◌, ◌-◌}
 use mathlib.Core.Path.{◌≡◌, sym, ◌∙◌, ap, subst}
 use native.Mathlib.Omega.{arith}
-use Rattle.rules.specs.declared.Judged.TheVariants.{Fine}
 use Rattle.rules.specs.Table.{row_of, row_why, rows_why}
 use Rattle.tables.proofs.Rows.{rows_none, rows_next, rows-refused}
 use Rattle.tables.proofs.judge.rows_why.Goals as goal
@@ -26,4 +26,4 @@ loop-i-preserved c =
 pub returns : goal.returns
 returns c =
     let e : c.loop-i.i ≡ c.args.n = omega arith in
-    sym (subst (λ (k : ℕ). rows_why c.args.variables c.args.table.now k ≡ Fine) e c.loop-i.invariant.1)
+    sym (subst (λ (k : ℕ). rows_why c.args.variables c.args.table.now k ≡ Ok tt) e c.loop-i.invariant.1)
