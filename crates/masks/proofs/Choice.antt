@@ -1,6 +1,7 @@
 -- Tests and choices: the cases of a test and of two numbers, the parts of a conjunction, identities of tests, and `cond`, which chooses.
 -- Each law goes by the cases of its tests. Where a statement computes by a test, the test is an explicit argument.
-use mathlib.Core.Path.{◌≡◌, refl, sym, ◌∙◌}
+use Rattle.std.specs.Prelude.{Option, Some, None, Result, Ok, Err}
+use mathlib.Core.Path.{◌≡◌, refl, sym, ap, ◌∙◌}
 use mathlib.Core.Logic.{◌⊎◌, inl, inr, ⊎_elim}
 use mathlib.Core.Bool.{Bool, true, false, not, cond, ◌&&◌, ◌||◌, beq, true≢false}
 use Prim.Native.Nat.{ℕ, ◌<◌, ◌≤◌}
@@ -145,3 +146,27 @@ module _ {A : Type 0} where
 pub cond-ap : {A B : Type 0} (f : A → B) (b : Bool) (x y : A) → f (cond b x y) ≡ cond b (f x) (f y)
 cond-ap f true x y = refl
 cond-ap f false x y = refl
+
+-- ---- what stands in an option or a result: two that are equal hold equals, and two pairs have equal parts
+
+abbrev some_or : {A : Type 0} → A → Option A → A
+some_or a None = a
+some_or a (Some b) = b
+
+pub some-same : {A : Type 0} {a b : A} → Some a ≡ Some b → a ≡ b
+some-same {A} {a} e = ap (some_or a) e
+
+pub some-pair : {A B : Type 0} {a c : A} {b d : B} → ◌≡◌ {A = Option (A × B)} (Some (a, b)) (Some (c, d)) → (a ≡ c) × (b ≡ d)
+some-pair {A} {B} {a} {c} {b} {d} e =
+    let p : ◌≡◌ {A = A × B} (a, b) (c, d) = some-same e in (ap (λ (x : A × B). x.0) p, ap (λ (x : A × B). x.1) p)
+
+abbrev ok_or : {A E : Type 0} → A → Result A E → A
+ok_or a (Ok b) = b
+ok_or a (Err r) = a
+
+pub ok-same : {A E : Type 0} {a b : A} → ◌≡◌ {A = Result A E} (Ok a) (Ok b) → a ≡ b
+ok-same {A} {E} {a} e = ap (ok_or a) e
+
+pub ok-pair : {A B E : Type 0} {a c : A} {b d : B} → ◌≡◌ {A = Result (A × B) E} (Ok (a, b)) (Ok (c, d)) → (a ≡ c) × (b ≡ d)
+ok-pair {A} {B} {E} {a} {c} {b} {d} e =
+    let p : ◌≡◌ {A = A × B} (a, b) (c, d) = ok-same e in (ap (λ (x : A × B). x.0) p, ap (λ (x : A × B). x.1) p)
