@@ -1,6 +1,7 @@
 -- Tests and choices: the cases of a test and of two numbers, the parts of a conjunction, identities of tests, and `cond`, which chooses.
 -- Each law goes by the cases of its tests. Where a statement computes by a test, the test is an explicit argument.
-use Rattle.std.specs.Prelude.{Option, Some, None, Result, Ok, Err}
+use Rattle.std.specs.Prelude.{Option, Some, None, Result, Ok, Err, IsErrAnd}
+use Rattle.std.proofs.lemmas.Result.{err_from_is_err_and}
 use mathlib.Core.Path.{◌≡◌, refl, sym, ap, ◌∙◌}
 use mathlib.Core.Logic.{◌⊎◌, inl, inr, ⊎_elim}
 use mathlib.Core.Bool.{Bool, true, false, not, cond, ◌&&◌, ◌||◌, beq, true≢false}
@@ -170,3 +171,8 @@ ok-same {A} {E} {a} e = ap (ok_or a) e
 pub ok-pair : {A B E : Type 0} {a c : A} {b d : B} → ◌≡◌ {A = Result (A × B) E} (Ok (a, b)) (Ok (c, d)) → (a ≡ c) × (b ≡ d)
 ok-pair {A} {B} {E} {a} {c} {b} {d} e =
     let p : ◌≡◌ {A = A × B} (a, b) (c, d) = ok-same e in (ap (λ (x : A × B). x.0) p, ap (λ (x : A × B). x.1) p)
+
+-- ---- what a `?` hands on is the refusal that came
+
+pub handed-on : {T E : Type 0} (r : Result T E) (e : E) → IsErrAnd r (λ x. x ≡ e) → r ≡ Err e
+handed-on r e is = let p = err_from_is_err_and r is in p.1 ∙ ap Err p.2

@@ -11,7 +11,7 @@ use Rattle.deciding.proofs.decide.Goals as goal
 pub returns-in_default : goal.returns-in_default
 returns-in_default c =
     let told =
-    decide-early c.args.desk.now c.args.literal _ c.step_why-why.ensures _ c.in_default.is
+    decide-early c.args.desk.now c.args.literal _ c.step_why.ensures _ c.in_default.is
     in record { value = told.0; desk_after = told.1 }
 
 pub returns-in_default-new : goal.returns-in_default-new
@@ -19,7 +19,7 @@ returns-in_default-new c =
     let met : c.new.result ≡ offered c.args.literal = c.new.ensures ∙ ap offered (back c.args.literal c.ranges.literal) in
     let told =
     let refused = sym met ∙ c.in_default-new.is in
-    decide-no-literal c.args.desk.now c.args.literal _ c.step_why-why.ensures c.in-Fine.is refused
+    decide-no-literal c.args.desk.now c.args.literal _ c.step_why.ensures c.in_ok-step_why.was refused
     in record { value = told.0; desk_after = told.1 }
 
 pub out_of_reach-requires : goal.out_of_reach-requires
@@ -33,7 +33,7 @@ returns-then-out_of_reach c =
     let met : c.new.result ≡ offered c.args.literal = c.new.ensures ∙ ap offered (back c.args.literal c.ranges.literal) in
     let told =
     let made = sym met ∙ c.in-Fine-new.is in
-    decide-out c.args.desk.now c.args.literal _ c.step_why-why.ensures c.in-Fine.is _ made _
+    decide-out c.args.desk.now c.args.literal _ c.step_why.ensures c.in_ok-step_why.was _ made _
     c.out_of_reach.ensures c.if-out_of_reach.true
     in record { value = told.0; desk_after = told.1 }
 
@@ -42,7 +42,7 @@ decide_step-requires c =
     let met : c.new.result ≡ offered c.args.literal = c.new.ensures ∙ ap offered (back c.args.literal c.ranges.literal) in
     let made = sym met ∙ c.in-Fine-new.is in
     decide-room c.args.desk.now c.args.literal
-    (decide-in c.args.desk.now c.args.literal _ c.step_why-why.ensures c.in-Fine.is _ made _
+    (decide-in c.args.desk.now c.args.literal _ c.step_why.ensures c.in_ok-step_why.was _ made _
     c.out_of_reach.ensures c.if-out_of_reach.false)
 
 pub returns : goal.returns
@@ -50,6 +50,6 @@ returns c =
     let met : c.new.result ≡ offered c.args.literal = c.new.ensures ∙ ap offered (back c.args.literal c.ranges.literal) in
     let told =
     let made = sym met ∙ c.in-Fine-new.is in
-    decide-done c.args.desk.now c.args.literal _ c.step_why-why.ensures c.in-Fine.is _ made _
+    decide-done c.args.desk.now c.args.literal _ c.step_why.ensures c.in_ok-step_why.was _ made _
     c.out_of_reach.ensures _ c.if-out_of_reach.false c.decide_step.ensures
     in record { value = told.0; desk_after = told.1 }
