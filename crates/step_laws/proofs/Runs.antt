@@ -123,7 +123,7 @@ neither-ten : (b : Bool) (r : Refusal) (after : Judged) → (r ≡ BadDesk → �
 neither-ten true r after h k e = h (cc)
 neither-ten false r after h k e = k e
 
-fine-not-ten : (Ok tt) ≡ Err BadDesk → ⊥
+fine-not-ten : ◌≡◌ {A = Judged} (Ok tt) (Err BadDesk) → ⊥
 fine-not-ten e = impossible (cc)
 
 pub never-decide : (d : List ℕ) (l : ℤ) → well_formed d ≡ true → decide_why d l ≡ Err BadDesk → ⊥

@@ -11,7 +11,7 @@ use borrow.Author.Tests.{eq-eqb, ne_eqb, ltb-true, leb-true, le-leb, lt-leb}
 use lib.Dec.{eqb, leb, ltb}
 use lib.ListN.{length, get_or}
 use lib.Seq.{sets}
-use Rattle.masks.proofs.Choice.{cases, and_left, and_right, impossible}
+use Rattle.masks.proofs.Choice.{cases, and_left, and_right, impossible, some-same}
 use Rattle.masks.proofs.Words.{sets-append}
 use Rattle.literals.specs.declared.Lits.{Lits}
 use Rattle.literals.specs.Lits.{no_lits}
@@ -106,19 +106,19 @@ literal-by : (s : List ℕ) (at last : ℕ) (p : Bool) (positive : Bool) (v next
 literal-by s at last p positive v next None e = impossible (cc)
 literal-by s at last p positive v next (Some (w, m)) e = ⊎_elim (λ t. good t) (λ f. absurd (bad f)) (cases (ltb last w && leb w most_variables))
   where
-    good : (ltb last w && leb w most_variables) ≡ true → (last < v) × (v ≤ most_variables) × (Some (w, m) ≡ Some (v, next)) × (p ≡ positive)
+    good : (ltb last w && leb w most_variables) ≡ true
+        → (last < v) × (v ≤ most_variables) × (◌≡◌ {A = Option (ℕ × ℕ)} (Some (w, m)) (Some (v, next))) × (p ≡ positive)
     good t =
-        let q : Some (p, w, m) ≡ Some (positive, v, next) = rw t at e in
-        let wv : w ≡ v = cc in
-        let pp : p ≡ positive = cc in
-        let mm : m ≡ next = cc in
+        let q : ◌≡◌ {A = Option (Bool × ℕ × ℕ)} (Some (p, w, m)) (Some (positive, v, next)) = rw t at e in
+        let same : ◌≡◌ {A = Bool × ℕ × ℕ} (p, w, m) (positive, v, next) = some-same q in
+        let wv : w ≡ v = ap (λ (x : Bool × ℕ × ℕ). x.1) same in
         let above = ltb-true last w (and_left (ltb last w) (leb w most_variables) t) in
         let most = leb-true w most_variables (and_right (ltb last w) (leb w most_variables) t) in
-        (rw (← wv) above, rw (← wv) most, rw (wv, mm), pp)
+        (rw (← wv) above, rw (← wv) most, ap (λ (x : Bool × ℕ × ℕ). Some (x.1, x.2)) same, ap (λ (x : Bool × ℕ × ℕ). x.0) same)
 
     bad : (ltb last w && leb w most_variables) ≡ false → ⊥
     bad t =
-        let q : None ≡ Some (positive, v, next) = rw t at e in
+        let q : ◌≡◌ {A = Option (Bool × ℕ × ℕ)} None (Some (positive, v, next)) = rw t at e in
         impossible (cc)
 
 pub literal-found : (s : List ℕ) (at last : ℕ) (positive : Bool) (v next : ℕ) → literal_at s at last ≡ Some (positive, v, next)

@@ -18,8 +18,7 @@ use Rattle.rules.specs.declared.Refusal.TheVariants.{BadText}
 use Rattle.rules.specs.Refusals.{Judged, refuse}
 use Rattle.rules.specs.Table.{row_words, hard_mark, marked_row, row_of, row_words_of}
 use Rattle.rules.specs.Text.{line_feed, most_digits, number_text, lits_text, row_text}
-use Rattle.rules.specs.Reader.{row_lines, three_lines}
-use Rattle.rules.specs.Reader.{stands, number_line, mark_line, lits_line, row_at, RowsRead, rows, broken_at, in_front, rows_at}
+use Rattle.rules.specs.Reader.{row_lines, stands, number_line, mark_line, lits_line, row_at, RowsRead, rows, broken_at, in_front, rows_at}
 use Rattle.text_laws.specs.Pieces.{line_text, list_text}
 use Rattle.text_laws.specs.Keys.{weight_key, hard_key, lits_key}
 use Rattle.text_laws.specs.Lines.{Line, ended, missing, first_line, first_lines, NoFeed, RowHeld}
@@ -86,7 +85,8 @@ pub lines_at : (k : ℕ) (s : List ℕ) (at : ℕ) (c : List ℕ) (next : ℕ) �
     → first_lines (suc k) (drop at s) ≡ ended c ∷ first_lines k (drop next s)
 lines_at k s at c next p l = ap (first_lines (suc k)) l.cut ∙ lines-ended k c (drop next s) p
 
-pub lines_of : (k : ℕ) (key : List ℕ) (v : ℕ) (r : List ℕ) → NoFeed key → first_lines (suc k) (line_text key v ++ r) ≡ ended (number_bytes key v) ∷ first_lines k r
+pub lines_of : (k : ℕ) (key : List ℕ) (v : ℕ) (r : List ℕ) → NoFeed key
+    → first_lines (suc k) (line_text key v ++ r) ≡ ended (number_bytes key v) ∷ first_lines k r
 lines_of k key v r p =
     ap (λ (x : List ℕ). first_lines (suc k) (x ++ r)) (number-line key v)
     ∙ ap (first_lines (suc k)) (append_assoc (number_bytes key v) (line_feed ∷ []) r)
@@ -124,10 +124,10 @@ lits-of k l r =
     ∙ lines-ended k (lits_bytes l) r (lits-bytes-no-feed l)
 
 -- a row's three lines, and what follows them
-abbrev three_lines : Row → List Line → List Line
-three_lines row more = ended (number_bytes weight_key row.weight) ∷ ended (number_bytes hard_key row.mark) ∷ ended (lits_bytes row.lits) ∷ more
+abbrev lines_of_row : Row → List Line → List Line
+lines_of_row row more = ended (number_bytes weight_key row.weight) ∷ ended (number_bytes hard_key row.mark) ∷ ended (lits_bytes row.lits) ∷ more
 
-row-of : (k : ℕ) (row : Row) (r : List ℕ) → first_lines (suc (suc (suc k))) (row_text row ++ r) ≡ three_lines row (first_lines k r)
+row-of : (k : ℕ) (row : Row) (r : List ℕ) → first_lines (suc (suc (suc k))) (row_text row ++ r) ≡ lines_of_row row (first_lines k r)
 row-of k row r =
     marked-of (suc k) row r
     ∙ ap (λ (x : List Line). ended (number_bytes weight_key row.weight) ∷ ended (number_bytes hard_key row.mark) ∷ x) (lits-of k row.lits r)
@@ -241,7 +241,7 @@ module _ (s : List ℕ) (at m : ℕ) where
       unfolding first_lines rows_from
       row-then l next e j b =
           let row = marked_row l w mark in
-          let lines : (k : ℕ) → first_lines (suc (suc (suc k))) (drop at s) ≡ three_lines row (first_lines k (drop next s)) =
+          let lines : (k : ℕ) → first_lines (suc (suc (suc k))) (drop at s) ≡ lines_of_row row (first_lines k (drop next s)) =
           λ k.
           two-lines (suc k)
           ∙ ap (λ (x : List Line). ended (number_bytes weight_key w) ∷ ended (number_bytes hard_key mark) ∷ x)
@@ -252,7 +252,7 @@ module _ (s : List ℕ) (at m : ℕ) where
             held = each_more RowHeld m row b.words (row-held s at w mid mark past l next read said e) b.held;
             alike =
                 lines j
-                ∙ ap (three_lines row) b.alike
+                ∙ ap (lines_of_row row) b.alike
                 ∙ sym (ap (first_lines (suc (suc (suc j)))) (front-rows m row b.words) ∙ row-of j row (rows_from m 0 b.words));
             none = λ table i h q.
                 let whole = row-of (suc j) (row_of table i) (rows_from m (suc i) table) in
@@ -291,7 +291,7 @@ pub record Placed (m : ℕ) (t : List ℕ) (line k : ℕ) : Type 0 where
   pub place : k ≡ line + lines
   pub broken : RestBroken m t lines
 
-same_place : (a k : ℕ) → Err (BadText a) ≡ Err (BadText k) → k ≡ a
+same_place : (a k : ℕ) → ◌≡◌ {A = Judged} (Err (BadText a)) (Err (BadText k)) → k ≡ a
 same_place a k e = cc
 
 pub rest-placed : (m : ℕ) (s : List ℕ) (at line k : ℕ) → at ≤ length s → end_why s (line + row_lines * m) (rows_at m s at line) ≡ Err (BadText k)
@@ -334,7 +334,8 @@ rest-placed (suc m) s at line k l e = on-weight (number_line s at weight_key) re
           broken = row-then s at m w mid p mark past o lits next q rest.lines rest.broken;
         }
 
-    on-mark : (w mid : ℕ) → number_line s at weight_key ≡ Some (w, mid) → (r : Option (ℕ × ℕ)) → mark_line s mid ≡ r → Behind → Placed (suc m) (drop at s) line k
+    on-mark : (w mid : ℕ) → number_line s at weight_key ≡ Some (w, mid) → (r : Option (ℕ × ℕ)) → mark_line s mid ≡ r → Behind
+        → Placed (suc m) (drop at s) line k
     on-mark w mid p None q ih =
         record { lines = 1; place = at_place (line + 1) (row-no-mark s at line w mid p q); broken = mark-broken s at m w mid p q }
     on-mark w mid p (Some (mark, past)) q ih = on-lits w mid mark past p q (lits_line s past) refl ih

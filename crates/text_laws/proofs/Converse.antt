@@ -21,7 +21,7 @@ use Rattle.rules.proofs.Judging.{refuse-fine}
 use Rattle.text_laws.proofs.Stands.{stands-whole}
 use Rattle.text_laws.proofs.Rows.{rows-found}
 use Rattle.text_laws.proofs.Heads.{head_text, head-length, table-text, head-found}
-use Rattle.text_laws.proofs.Reading.{head-fine}
+use Rattle.text_laws.proofs.Reading.{same_text, head-fine}
 
 pub count_of : (words : List ℕ) (m : ℕ) → length words ≡ row_words * m → row_count words ≡ m
 unfolding row_count
@@ -35,8 +35,8 @@ rest-words s m (rows words next) e =
 rest-words s m (broken_at b) e = impossible (cc)
 
 -- the text of its head and its rows
-pub head-and-rows : (s : List ℕ) (n b m next : ℕ) (words : List ℕ) → head_at s ≡ Ok (three_lines n b m next) → rows_at m s next first_row_line ≡ rows words (length s)
-    → s ≡ table_text n b words
+pub head-and-rows : (s : List ℕ) (n b m next : ℕ) (words : List ℕ) → head_at s ≡ Ok (three_lines n b m next)
+    → rows_at m s next first_row_line ≡ rows words (length s) → s ≡ table_text n b words
 head-and-rows s n b m next words e f =
     let head = head-found s n b m next e in
     let body = rows-found m s next first_row_line words (length s) f in
@@ -46,17 +46,16 @@ head-and-rows s n b m next words e f =
     let long : length (table_text n b words) ≡ length s = ap length text ∙ head-length n b m (rows_text words m) ∙ sym end in
     stands-whole s (table_text n b words) (rw text (head.stand (rows_text words m) body.stand)) long
 
-judged : (most : ℕ) (s : List ℕ) (room n b m next : ℕ) → head_at s ≡ Ok (three_lines n b m next)
-    → (j : Judged) → head_why most s room (Ok (three_lines n b m next)) ≡ j
-    → (v c k : ℕ) → text_read_as j (Ok (three_lines n b m next)) ≡ Ok (text_says v c k) → s ≡ table_text v c (read_words s)
+judged : (most : ℕ) (s : List ℕ) (room : ℕ) (head : HeadRead) → head_at s ≡ Ok head → (j : Judged) → head_why most s room (Ok head) ≡ j
+    → (n b m : ℕ) → text_read_as j (Ok head) ≡ Ok (text_says n b m) → s ≡ table_text n b (read_words s)
 unfolding read_words
-judged most s room n b m next e (Ok _) why v c k h =
-    let nv : n ≡ v = cc in
-    let bc : b ≡ c = cc in
-    let fine = head-fine most s room n b m next why in
-    let body = rest-words s m (rows_at m s next first_row_line) fine.rest in
-    rw (e, ← nv, ← bc) (head-and-rows s n b m next (words_of (rows_at m s next first_row_line)) e body)
-judged most s room n b m next e (Err r) why v c k h = impossible (cc)
+judged most s room head e (Ok _) why n b m h =
+    let same = same_text h in
+    let found = rows_at head.rows s head.next first_row_line in
+    let fine = head-fine most s room head.variables head.budget head.rows head.next why in
+    let body = rest-words s head.rows found fine.rest in
+    rw (e, ← same.0, ← same.1) (head-and-rows s head.variables head.budget head.rows head.next (words_of found) e body)
+judged most s room head e (Err r) why n b m h = impossible (cc)
 
 pub converse : (most : ℕ) (s : List ℕ) (room n b m : ℕ) → text_read most s room ≡ Ok (text_says n b m) → s ≡ table_text n b (read_words s)
 unfolding text_read read_why
@@ -64,8 +63,8 @@ converse most s room n b m h = go (head_at s) refl
   where
     go : (x : Result HeadRead ℕ) → head_at s ≡ x → s ≡ table_text n b (read_words s)
     go (Ok head) e =
-        let h2 : text_read_as (head_why most s room (Ok (three_lines head.variables head.budget head.rows head.next))) (Ok (three_lines head.variables head.budget head.rows head.next)) ≡ Ok (text_says n b m) = rw e at h in
-        judged most s room head.variables head.budget head.rows head.next e (head_why most s room (Ok (three_lines head.variables head.budget head.rows head.next))) refl n b m h2
+        let h2 : text_read_as (head_why most s room (Ok head)) (Ok head) ≡ Ok (text_says n b m) = rw e at h in
+        judged most s room head e (head_why most s room (Ok head)) refl n b m h2
     go (Err bad) e =
         let h2 : Err (BadText bad) ≡ Ok (text_says n b m) = rw e at h in
         impossible (cc)
@@ -75,24 +74,23 @@ pub word_count : (most : ℕ) (s : List ℕ) (room n b m : ℕ) → text_read mo
 unfolding text_read read_why read_words
 word_count most s room n b m h = go (head_at s) refl
   where
-    counted : (v c k next : ℕ) (j : Judged) → head_why most s room (Ok (three_lines v c k next)) ≡ j
-        → text_read_as j (Ok (three_lines v c k next)) ≡ Ok (text_says n b m)
-        → length (words_of (rows_at k s next first_row_line)) ≡ row_words * m
-    counted v c k next (Ok _) why q =
-        let km : k ≡ m = cc in
-        let body = rest-words s k (rows_at k s next first_row_line) (head-fine most s room v c k next why).rest in
-        (rows-found k s next first_row_line (words_of (rows_at k s next first_row_line)) (length s) body).long ∙ ap (λ (x : ℕ). row_words * x) km
-    counted v c k next (Err r) why q = impossible (cc)
+    counted : (head : HeadRead) (j : Judged) → head_why most s room (Ok head) ≡ j → text_read_as j (Ok head) ≡ Ok (text_says n b m)
+        → length (words_of (rows_at head.rows s head.next first_row_line)) ≡ row_words * m
+    counted head (Ok _) why q =
+        let found = rows_at head.rows s head.next first_row_line in
+        let body = rest-words s head.rows found (head-fine most s room head.variables head.budget head.rows head.next why).rest in
+        (rows-found head.rows s head.next first_row_line (words_of found) (length s) body).long ∙ ap (λ (x : ℕ). row_words * x) (same_text q).2
+    counted head (Err r) why q = impossible (cc)
 
     go : (x : Result HeadRead ℕ) → head_at s ≡ x → length (read_words s) ≡ row_words * m
     go (Ok head) e =
-        let h2 : text_read_as (head_why most s room (Ok (three_lines head.variables head.budget head.rows head.next))) (Ok (three_lines head.variables head.budget head.rows head.next)) ≡ Ok (text_says n b m) = rw e at h in
-        rw e (counted head.variables head.budget head.rows head.next (head_why most s room (Ok (three_lines head.variables head.budget head.rows head.next))) refl h2)
+        let h2 : text_read_as (head_why most s room (Ok head)) (Ok head) ≡ Ok (text_says n b m) = rw e at h in
+        rw e (counted head (head_why most s room (Ok head)) refl h2)
     go (Err bad) e =
         let h2 : Err (BadText bad) ≡ Ok (text_says n b m) = rw e at h in
         impossible (cc)
 
 -- so no two texts are read as the same variables, budget and words
-pub one-spelling : (most : ℕ) (s t : List ℕ) (room other n b m : ℕ) → text_read most s room ≡ Ok (text_says n b m) → text_read most t other ≡ Ok (text_says n b m)
-    → read_words s ≡ read_words t → s ≡ t
+pub one-spelling : (most : ℕ) (s t : List ℕ) (room other n b m : ℕ) → text_read most s room ≡ Ok (text_says n b m)
+    → text_read most t other ≡ Ok (text_says n b m) → read_words s ≡ read_words t → s ≡ t
 one-spelling most s t room other n b m p q e = converse most s room n b m p ∙ ap (table_text n b) e ∙ sym (converse most t other n b m q)

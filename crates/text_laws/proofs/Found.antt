@@ -3,7 +3,6 @@ use Rattle.std.specs.Prelude.{Result, Ok, Err}
 use Prim.Native.Nat.{ℕ, ◌*◌, ◌≤◌}
 use mathlib.Core.Path.{◌≡◌, refl}
 use mathlib.Core.List.{List, ◌++◌}
-use native.Mathlib.Omega.{arith}
 use lib.ListN.{length, take, drop}
 use lib.Seq.{take_at}
 use Rattle.masks.proofs.Choice.{impossible}
@@ -13,9 +12,9 @@ use Rattle.rules.specs.Refusals.{Judged}
 use Rattle.rules.specs.declared.HeadRead.{HeadRead}
 use Rattle.rules.specs.Table.{row_words}
 use Rattle.rules.specs.Walk.{most_budget}
-use Rattle.rules.specs.Reader.{head_at, head_why, read_why, read_words, read_step, text_read_as, text_read, read_table, text_says, three_lines}
+use Rattle.rules.specs.Reader.{head_at, head_why, read_why, read_words, read_step, text_read_as, text_read, read_table, text_says}
 use Rattle.rules.proofs.Judging.{words-fine}
-use Rattle.text_laws.proofs.Reading.{head-fine}
+use Rattle.text_laws.proofs.Reading.{same_text, head-fine}
 use Rattle.text_laws.proofs.Converse.{word_count}
 
 pub record ReadFine (most : ℕ) (s : List ℕ) (room n b m : ℕ) : Type 0 where
@@ -28,26 +27,23 @@ pub read-fine : (most : ℕ) (s : List ℕ) (room n b m : ℕ) → text_read mos
 unfolding text_read read_why
 read-fine most s room n b m h = go (head_at s) refl
   where
-    judged : (v c k next : ℕ) (j : Judged) → head_why most s room (Ok (three_lines v c k next)) ≡ j
-        → text_read_as j (Ok (three_lines v c k next)) ≡ Ok (text_says n b m)
-        → head_at s ≡ Ok (three_lines v c k next) → ReadFine most s room n b m
-    judged v c k next (Ok _) why q e =
-        let vn : v ≡ n = cc in
-        let cb : c ≡ b = cc in
-        let km : k ≡ m = cc in
-        let f = head-fine most s room v c k next why in
+    judged : (head : HeadRead) (j : Judged) → head_why most s room (Ok head) ≡ j → text_read_as j (Ok head) ≡ Ok (text_says n b m)
+        → head_at s ≡ Ok head → ReadFine most s room n b m
+    judged head (Ok _) why q e =
+        let same = same_text q in
+        let f = head-fine most s room head.variables head.budget head.rows head.next why in
         record {
           fine = rw e why;
-          variables = omega (arith, f.variables);
-          budget = omega (arith, f.budget);
-          few = omega (arith, f.few);
+          variables = rw (← same.0) f.variables;
+          budget = rw (← same.1) f.budget;
+          few = rw (← same.2) f.few;
         }
-    judged v c k next (Err r) why q e = impossible (cc)
+    judged head (Err r) why q e = impossible (cc)
 
     go : (x : Result HeadRead ℕ) → head_at s ≡ x → ReadFine most s room n b m
     go (Ok head) e =
-        let h2 : text_read_as (head_why most s room (Ok (three_lines head.variables head.budget head.rows head.next))) (Ok (three_lines head.variables head.budget head.rows head.next)) ≡ Ok (text_says n b m) = rw e at h in
-        judged head.variables head.budget head.rows head.next (head_why most s room (Ok (three_lines head.variables head.budget head.rows head.next))) refl h2 e
+        let h2 : text_read_as (head_why most s room (Ok head)) (Ok head) ≡ Ok (text_says n b m) = rw e at h in
+        judged head (head_why most s room (Ok head)) refl h2 e
     go (Err bad) e =
         let h2 : Err (BadText bad) ≡ Ok (text_says n b m) = rw e at h in
         impossible (cc)

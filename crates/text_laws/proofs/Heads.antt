@@ -2,7 +2,7 @@
 -- before it ends, and what follows them begins where the third ends.
 use Rattle.std.specs.Prelude.{Option, Some, None, Ok}
 use Prim.Native.Nat.{ℕ, ◌+◌, ◌<◌, ◌^◌}
-use mathlib.Core.Path.{◌≡◌, refl, ◌∙◌}
+use mathlib.Core.Path.{◌≡◌, refl, sym, ◌∙◌}
 use mathlib.Core.Bool.{true}
 use mathlib.Core.List.{List, ◌++◌}
 use native.Mathlib.Omega.{arith}
@@ -16,6 +16,7 @@ use Rattle.text_laws.specs.Keys.{vars_key, budget_key, rows_key}
 use Rattle.text_laws.proofs.Stands.{first-stands, second-stands, both-stand}
 use Rattle.text_laws.proofs.Branches.{head-no-vars, head-no-budget, head-no-rows, head-is}
 use Rattle.text_laws.proofs.Lines.{line_reads, line-found}
+use Rattle.text_laws.proofs.Reading.{same_head}
 
 -- the three lines, with what follows them
 abbrev pub head_text : ℕ → ℕ → ℕ → List ℕ → List ℕ
@@ -81,12 +82,8 @@ head-found s n b m next e = first (number_line s 0 vars_key) refl
         let z = head-no-rows s v a w c p q r in
         impossible (cc)
     third v a w c p q (Some (x, d)) r =
-        let z = head-is s v a w c x d p q r in
-        let vn : v ≡ n = cc in
-        let wb : w ≡ b = cc in
-        let xm : x ≡ m = cc in
-        let dn : d ≡ next = cc in
-        rw (← vn, ← wb, ← xm, ← dn) (found-head s v a w c x d p q r)
+        let same = same_head (sym (head-is s v a w c x d p q r) ∙ e) in
+        rw (← same.0, ← same.1, ← same.2, ← same.3) (found-head s v a w c x d p q r)
 
     second : (v a : ℕ) → number_line s 0 vars_key ≡ Some (v, a) → (r : Option (ℕ × ℕ)) → number_line s a budget_key ≡ r → HeadFound s n b m next
     second v a p None q =

@@ -2,7 +2,7 @@
 -- number in a line ends where it should.
 use Rattle.std.specs.Prelude.{Option, Some, None}
 use Prim.Native.Nat.{ℕ, ◌+◌, ◌<◌, ◌^◌}
-use mathlib.Core.Path.{◌≡◌, refl}
+use mathlib.Core.Path.{◌≡◌, refl, sym, ◌∙◌}
 use mathlib.Core.Logic.{⊎_elim}
 use mathlib.Core.Bool.{true, false}
 use mathlib.Core.List.{List, [], ◌∷◌, ◌++◌}
@@ -10,7 +10,7 @@ use native.Mathlib.Omega.{arith}
 use borrow.Author.Tests.{eqb-true, eqb-false}
 use lib.Dec.{eqb}
 use lib.ListN.{length, get_or, length-append}
-use Rattle.masks.proofs.Choice.{cases, impossible}
+use Rattle.masks.proofs.Choice.{cases, impossible, some-pair}
 use Rattle.rules.specs.Text.{number_text, line_feed, most_digits}
 use Rattle.rules.specs.Reader.{stands, is_digit, number_at, number_line}
 use Rattle.text_laws.specs.Pieces.{line_text}
@@ -73,9 +73,7 @@ line-found s at key v next e =
         ⊎_elim
         (λ t.
         let f = eqb-true (get_or s m 0) line_feed t in
-        let h = line-is s at key w m k q f in
-        let wv : w ≡ v = cc in
-        let mn : m + 1 ≡ next = cc in
-        rw (← wv, ← mn) (found-line s at key w m k q f))
+        let same = some-pair (sym (line-is s at key w m k q f) ∙ e) in
+        rw (← same.0, ← same.1) (found-line s at key w m k q f))
         (λ t. absurd (never (line-unended s at key w m k q (eqb-false (get_or s m 0) line_feed t))))
         (cases (eqb (get_or s m 0) line_feed))

@@ -13,7 +13,7 @@ use lib.Dec.{eqb}
 use lib.Bits.{bit_and, bit_or}
 use lib.ListN.{length, get_or, length-append}
 use Rattle.masks.specs.Masks.{has, single}
-use Rattle.masks.proofs.Choice.{cases, clash, impossible, lt-or-le}
+use Rattle.masks.proofs.Choice.{cases, clash, impossible, lt-or-le, some-pair}
 use Rattle.masks.proofs.Bits.{has-or, has-past, has-pow-same, has-pow-other, lt-of-has}
 use Rattle.masks.proofs.Sets.{apart, apart_of}
 use Rattle.literals.specs.declared.Lits.{Lits}
@@ -209,8 +209,8 @@ found-end s from at last l so e =
     }
 
 -- a turn that is not the line's end: the literal that it read, and what is found behind it
-found_turn : (k : ℕ) (s : List ℕ) (from at last : ℕ) (l found : Lits) (next q : ℕ) → SoFar s from at last l → (get_or s at 0 ≡ line_feed → ⊥) → Parted s at last q
-    → lits_from (suc k) s at last l ≡ Some (found, next)
+found_turn : (k : ℕ) (s : List ℕ) (from at last : ℕ) (l found : Lits) (next q : ℕ) → SoFar s from at last l → (get_or s at 0 ≡ line_feed → ⊥)
+    → Parted s at last q → lits_from (suc k) s at last l ≡ Some (found, next)
     → ((place v : ℕ) (more : Lits) → SoFar s from place v more → lits_from k s place v more ≡ Some (found, next) → ListFound s from found next)
     → ListFound s from found next
 found_turn k s from at last l found next q so e parts h ih = go (literal_at s q last) refl
@@ -234,10 +234,8 @@ lits-found (suc k) s from at last l found next so h =
     ⊎_elim
     (λ (t : eqb (get_or s at 0) line_feed ≡ true).
     let b = eqb-true (get_or s at 0) line_feed t in
-    let r = lits-end k s at last l b in
-    let same : l ≡ found = cc in
-    let place : at + 1 ≡ next = cc in
-    rw (← same, ← place) (found-end s from at last l so b))
+    let same = some-pair (sym (lits-end k s at last l b) ∙ h) in
+    rw (← same.0, ← same.1) (found-end s from at last l so b))
     (λ (t : eqb (get_or s at 0) line_feed ≡ false).
     let e = eqb-false (get_or s at 0) line_feed t in
     ⊎_elim

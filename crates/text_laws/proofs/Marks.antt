@@ -1,13 +1,13 @@
 -- A line of a mark: a line of its key and a number that is 0 or 1. What is written is read as it, and what is read is written so.
 use Rattle.std.specs.Prelude.{Option, Some, None}
 use Prim.Native.Nat.{ℕ, ◌+◌, ◌<◌, ◌≤◌}
-use mathlib.Core.Path.{◌≡◌, refl}
+use mathlib.Core.Path.{◌≡◌, refl, sym, ◌∙◌}
 use mathlib.Core.Logic.{⊎_elim}
 use mathlib.Core.Bool.{true}
 use mathlib.Core.List.{List}
 use native.Mathlib.Omega.{arith}
 use lib.ListN.{length}
-use Rattle.masks.proofs.Choice.{impossible, lt-or-le}
+use Rattle.masks.proofs.Choice.{impossible, lt-or-le, some-pair}
 use Rattle.rules.specs.Table.{hard_mark}
 use Rattle.rules.specs.Reader.{stands, number_line, mark_line}
 use Rattle.text_laws.specs.Keys.{hard_key}
@@ -37,8 +37,6 @@ mark-found s at m next e = go (number_line s at hard_key) refl
         let b = mark-over s at n past p h in
         impossible (cc))
         (λ (h : n ≤ hard_mark).
-        let b = mark-is s at n past p h in
-        let nm : n ≡ m = cc in
-        let pn : past ≡ next = cc in
-        record { line = rw (← nm, ← pn) p; small = rw (← nm) h })
+        let same = some-pair (sym (mark-is s at n past p h) ∙ e) in
+        record { line = rw (← same.0, ← same.1) p; small = rw (← same.0) h })
         (lt-or-le hard_mark n)

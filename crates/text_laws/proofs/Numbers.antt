@@ -1,6 +1,6 @@
 -- A number in a text. Its digits, last one last, make the value; the value's digits are those, since the first of several is not 0. So what
 -- is written of a number below 10 ^ most_digits is read as it where no digit follows, and a number that is read stands there as it is written.
-use Rattle.std.specs.Prelude.{Some, None}
+use Rattle.std.specs.Prelude.{Option, Some, None}
 use Prim.Native.Nat.{ℕ, zero, suc, ◌+◌, ◌-◌, ◌*◌, ◌/◌, ◌%◌, ◌^◌, ◌<◌, ◌≤◌}
 use mathlib.Core.Path.{◌≡◌, refl, ap, ◌∙◌}
 use mathlib.Core.Logic.{◌⊎◌, inl, inr, ⊎_elim}
@@ -12,7 +12,7 @@ use native.Mathlib.Omega.{arith}
 use borrow.Author.Tests.{eq-eqb, ne_eqb, eqb-true, eqb-false, ltb-true, lt-ltb, le-ltb, le-leb, leb-true, not-true}
 use lib.Dec.{eqb, leb, ltb}
 use lib.ListN.{length, get_or, length-append}
-use Rattle.masks.proofs.Choice.{cases, and_left, and_right, both, or_cases, lt-or-le, impossible}
+use Rattle.masks.proofs.Choice.{cases, and_left, and_right, both, or_cases, lt-or-le, impossible, some-pair}
 use Rattle.rules.specs.Text.{digit_zero, most_digits, digits, number_text}
 use Rattle.rules.specs.Reader.{stands, is_digit, digit_run, value_of, number_at}
 use Rattle.text_laws.proofs.Stands.{inside, first-stands, second-stands, both-stand, byte-stands, front-byte}
@@ -300,14 +300,14 @@ number-found s at v next e = ⊎_elim (λ t. good t) (λ f. absurd (bad f)) (cas
   where
     good : numeral s at (digit_run s at (suc most_digits)) ≡ true → NumberFound s at v next
     good t =
-        let q : Some (value_of s at (digit_run s at (suc most_digits)), at + digit_run s at (suc most_digits)) ≡ Some (v, next) = rw t at e in
-        let qv : value_of s at (digit_run s at (suc most_digits)) ≡ v = cc in
-        let qn : at + digit_run s at (suc most_digits) ≡ next = cc in
-        rw (← qv, ← qn) (found-by s at (digit_run s at (suc most_digits)) refl t)
+        let n = digit_run s at (suc most_digits) in
+        let q : ◌≡◌ {A = Option (ℕ × ℕ)} (Some (value_of s at n, at + n)) (Some (v, next)) = rw t at e in
+        let same = some-pair q in
+        rw (← same.0, ← same.1) (found-by s at n refl t)
 
     bad : numeral s at (digit_run s at (suc most_digits)) ≡ false → ⊥
     bad f =
-        let q : None ≡ Some (v, next) = rw f at e in
+        let q : ◌≡◌ {A = Option (ℕ × ℕ)} None (Some (v, next)) = rw f at e in
         impossible (cc)
 
 -- ---- digits as the writer meets them

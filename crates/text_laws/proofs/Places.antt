@@ -9,13 +9,12 @@ use mathlib.Core.List.{List, [], ◌∷◌, ◌++◌}
 use native.Mathlib.Omega.{arith}
 use borrow.Author.Tests.{ne_eqb}
 use lib.ListN.{length, drop, length-append}
-use Rattle.masks.proofs.Choice.{impossible, lt-or-le}
+use Rattle.masks.proofs.Choice.{impossible, lt-or-le, some-pair}
 use Rattle.rules.specs.declared.HeadRead.{HeadRead}
 use Rattle.rules.specs.declared.Refusal.TheVariants.{BadText}
 use Rattle.rules.specs.Table.{row_words, row_count, row_of}
 use Rattle.rules.specs.Text.{most_digits, rows_text, table_text}
-use Rattle.rules.specs.Reader.{first_row_line, row_lines}
-use Rattle.rules.specs.Reader.{stands, number_line, head_at, RowsRead, rows, broken_at, rows_at, rest_why, words_of}
+use Rattle.rules.specs.Reader.{first_row_line, row_lines, stands, number_line, head_at, RowsRead, rows, broken_at, rows_at, rest_why, words_of}
 use Rattle.text_laws.specs.Pieces.{line_text}
 use Rattle.text_laws.specs.Keys.{vars_key, budget_key, rows_key}
 use Rattle.text_laws.specs.Lines.{NoFeed, Line, ended, first_line, first_lines, line_at, RowHeld, Held, InForm, FirstBroken}
@@ -162,7 +161,7 @@ module _ (s : List ℕ) (n a : ℕ) (p : number_line s 0 vars_key ≡ Some (n, a
           let r1 = number_of s 0 vars_key f.variables f.held.variables-digits l1 in
           let r2 = number_of s a budget_key f.budget f.held.budget-digits l2 in
           let r3 = number_of s c rows_key (row_count f.table) f.held.rows-digits l3 in
-          (cc, cc, cc)
+          ((some-pair (sym r1 ∙ p)).0, (some-pair (sym r2 ∙ q)).0, (some-pair (sym r3 ∙ r)).0)
 
       words-held : (words : List ℕ) → length words ≡ row_words * m → ((i : ℕ) → i < m → RowHeld (row_of words i)) → Held n b words
       words-held words long held =
@@ -183,7 +182,8 @@ module _ (s : List ℕ) (n a : ℕ) (p : number_line s 0 vars_key ≡ Some (n, a
           third-lines j
           ∙ ap (λ (x : List Line). ended (number_bytes vars_key n) ∷ ended (number_bytes budget_key b) ∷ ended (number_bytes rows_key m) ∷ x) alike
           ∙ sym (third-written n b words j
-          ∙ ap (λ (x : ℕ). ended (number_bytes vars_key n) ∷ ended (number_bytes budget_key b) ∷ ended (number_bytes rows_key x) ∷ first_lines j (rows_from x 0 words))
+          ∙ ap (λ (x : ℕ).
+          ended (number_bytes vars_key n) ∷ ended (number_bytes budget_key b) ∷ ended (number_bytes rows_key x) ∷ first_lines j (rows_from x 0 words))
           count)
 
       pub rest-broken : (k : ℕ) → Placed m (drop next s) first_row_line k → FirstBroken s k

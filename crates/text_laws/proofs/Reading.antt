@@ -2,7 +2,7 @@
 -- is room for the words, so that storing them one by one is putting them in front of the rest.
 use Rattle.std.specs.Prelude.{Result, Ok, Err}
 use Prim.Native.Nat.{ℕ, zero, suc, ◌+◌, ◌*◌, ◌<◌, ◌≤◌}
-use mathlib.Core.Path.{◌≡◌, refl, ◌∙◌}
+use mathlib.Core.Path.{◌≡◌, refl, ap, ◌∙◌}
 use mathlib.Core.List.{List}
 use native.Mathlib.Nat.{zero-add}
 use native.Mathlib.Omega.{arith}
@@ -20,6 +20,23 @@ use Rattle.rules.specs.Reader.{first_row_line, row_lines}
 use Rattle.rules.specs.Walk.{most_budget}
 use Rattle.rules.proofs.Judging.{refuse-fine}
 use Rattle.rules.specs.declared.Row.{Row}
+use Rattle.rules.specs.declared.HeadRead.{HeadRead}
+use Rattle.rules.specs.declared.TextRead.{TextRead}
+use Rattle.masks.proofs.Choice.{ok-same}
+
+-- ---- what is read as the same says the same
+
+pub same_head : {h k : HeadRead} → ◌≡◌ {A = Result HeadRead ℕ} (Ok h) (Ok k)
+    → (h.variables ≡ k.variables) × (h.budget ≡ k.budget) × (h.rows ≡ k.rows) × (h.next ≡ k.next)
+same_head {h} {k} e =
+    let p : h ≡ k = ok-same e in
+    (ap (λ (x : HeadRead). x.variables) p, ap (λ (x : HeadRead). x.budget) p, ap (λ (x : HeadRead). x.rows) p, ap (λ (x : HeadRead). x.next) p)
+
+pub same_text : {t u : TextRead} → ◌≡◌ {A = Result TextRead Refusal} (Ok t) (Ok u)
+    → (t.variables ≡ u.variables) × (t.budget ≡ u.budget) × (t.rows ≡ u.rows)
+same_text {t} {u} e =
+    let p : t ≡ u = ok-same e in
+    (ap (λ (x : TextRead). x.variables) p, ap (λ (x : TextRead). x.budget) p, ap (λ (x : TextRead). x.rows) p)
 
 -- ---- the head's figures, in order
 

@@ -10,14 +10,13 @@ use native.Mathlib.Nat.{add-zero}
 use native.Mathlib.Omega.{arith}
 use lib.Bits.{bit_and}
 use lib.ListN.{length, drop, length-append, drop_of_length-le}
-use Rattle.masks.proofs.Choice.{cases, impossible}
+use Rattle.masks.proofs.Choice.{cases, impossible, ok-pair}
 use Rattle.literals.specs.declared.Lits.{Lits}
 use Rattle.literals.specs.Literal.{most_variables}
 use Rattle.rules.specs.declared.Row.{Row}
 use Rattle.rules.specs.Table.{row_of, row_words_of, row_words, marked_row}
 use Rattle.rules.specs.Text.{lits_text, row_text, rows_text, line_feed}
-use Rattle.rules.specs.Reader.{row_lines}
-use Rattle.rules.specs.Reader.{stands, number_line, mark_line, lits_line, row_at, RowsRead, rows, broken_at, in_front, rows_at}
+use Rattle.rules.specs.Reader.{row_lines, stands, number_line, mark_line, lits_line, row_at, RowsRead, rows, broken_at, in_front, rows_at}
 use Rattle.text_laws.specs.Pieces.{line_text, list_text}
 use Rattle.text_laws.specs.Keys.{weight_key, hard_key, lits_key}
 use Rattle.text_laws.specs.Lines.{RowHeld}
@@ -124,11 +123,8 @@ row-found s at ln row next e = weighed (number_line s at weight_key) refl
         let b = row-no-lits s at ln w mid m past p o q in
         impossible (cc)
     listed w mid m past p o (Some (l, end)) q =
-        let b = row_is s at ln w mid m past p o l end q in
-        let wl : marked_row l w m ≡ row = cc in
-        let en : end ≡ next = cc in
-        let found = row-stands s at w mid m past l end p o q in
-        rw (← wl, ← en) found
+        let same = ok-pair (sym (row_is s at ln w mid m past p o l end q) ∙ e) in
+        rw (← same.0, ← same.1) (row-stands s at w mid m past l end p o q)
 
     marked : (w mid : ℕ) → number_line s at weight_key ≡ Some (w, mid) → (r : Option (ℕ × ℕ)) → mark_line s mid ≡ r → Standing s at row next
     marked w mid p None q =
@@ -260,8 +256,8 @@ runs (suc d) s at ln words next e = on_row (row_at s at ln) refl (λ mid more en
         let n : end ≡ next = cc in
         rw (← w, ← n) (run_more d s at ln row mid more end p (ih more end q))
 
-    on_row : (r : Result (Row × ℕ) ℕ) → row_at s at ln ≡ r → ((mid : ℕ) (more : List ℕ) (end : ℕ) → rows_at d s mid (ln + row_lines) ≡ rows more end → Run d s mid more end)
-        → Run (suc d) s at words next
+    on_row : (r : Result (Row × ℕ) ℕ) → row_at s at ln ≡ r
+        → ((mid : ℕ) (more : List ℕ) (end : ℕ) → rows_at d s mid (ln + row_lines) ≡ rows more end → Run d s mid more end) → Run (suc d) s at words next
     on_row (Err b) p ih =
         let z : rows_at (suc d) s at ln ≡ broken_at b = rw p in
         impossible (cc)
