@@ -10,6 +10,10 @@ use native.Mathlib.Nat.{add-sub_of_le, mul-zero, mul-add, min-le_right, min-eq_l
 use native.Mathlib.Numerals.{add-one}
 use native.Mathlib.Omega.{arith}
 use lib.Arith.{le-zero}
+use mathlib.Core.List.{List}
+use lib.ListN.{length, get_or}
+use Rattle.std.specs.Bool.{MatchBool}
+use Rattle.std.specs.List.{AllWithin, HoldsAt}
 use Rattle.masks.specs.Sums.{sum, every, smallest}
 use Rattle.masks.proofs.Choice.{cases, lt-or-le, not_so, clash, and_left, and_right, and-swap}
 
@@ -188,6 +192,13 @@ pub every-and : (n : ℕ) (p q : ℕ → Bool) → every n (λ i. p i && q i) �
 unfolding every
 every-and zero p q = refl
 every-and (suc n) p q = rw (every-and n p q) (and-swap (every n p) (every n q) (p n) (q n))
+
+-- what `all` says of the elements of a list, read by their indices
+pub every-from_all : (r : Bool) (xs : List ℕ) (p : ℕ → Bool)
+    → MatchBool r (AllWithin (λ x. p x ≡ true) xs 0 (length xs)) ((k : ℕ) × (k < length xs) × HoldsAt (λ x. p x ≡ false) xs k)
+    → r ≡ every (length xs) (λ i. p (get_or xs i 0))
+every-from_all true xs p h = sym (every_true (length xs) (λ i l. h i 0 (omega arith) l))
+every-from_all false xs p h = sym (every-false (length xs) (λ i. p (get_or xs i 0)) h.0 h.1 (h.2 0))
 
 -- ---- the smallest
 

@@ -1,5 +1,5 @@
-use Prim.Native.Nat.{ℕ, ◌+◌, ◌-◌, ◌<◌, ◌≤◌, min}
-use mathlib.Core.Path.{◌≡◌, sym, ap, ◌∙◌, subst}
+use Prim.Native.Nat.{ℕ, ◌+◌, ◌-◌, ◌<◌}
+use mathlib.Core.Path.{◌≡◌, sym, ap, ◌∙◌}
 use mathlib.Core.List.{List}
 use native.Mathlib.Omega.{arith}
 use lib.ListN.{length, get_or, take, drop, length-drop}
@@ -35,7 +35,7 @@ loop-row-init c = ap (λ (r : Row). r.weight) c.row_on-least.ensures ∙ sym (sm
 pub row_on-requires : goal.row_on-requires
 row_on-requires c =
     rw (behind-at c.args.named.now c.loop-row.row-index c.loop-row-test.true)
-        (c.requires.on_desk.inside (c.loop-row.row-index + 1) (omega (arith, length-behind c.args.named.now)))
+    (c.requires.on_desk.inside (c.loop-row.row-index + 1) (omega (arith, length-behind c.args.named.now)))
 
 pub loop-row-preserved : goal.loop-row-preserved
 loop-row-preserved c =
