@@ -49,13 +49,11 @@ fn rows_why(variables: u64, table: &[u64], n: usize) -> Judged
     requires { row_words * n ≤ length table.now }
     ensures { result ≡ rows_why variables table.now n }
 {
-    let mut i = 0;
-    while i < n {
+    for i in 0..n {
         let why = row_why(variables, i as u64, row_in(table, Row::WORDS * i));
         let Judged::Fine = why else {
             return why;
         };
-        i += 1;
     }
     Judged::Fine
 }
