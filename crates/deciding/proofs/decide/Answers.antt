@@ -25,21 +25,21 @@ returns-in_err-l c =
     let none = none-of-err c.new.result BadLiteral c.ok_or.result c.in_err-l.field-0.0 c.ok_or.ensures.value c.in_err-l.was in
     let told = decide-no-literal c.args.desk.now c.args.literal _ c.step_why.ensures c.in_ok-step_why.was (sym met ∙ none.0) in
     record {
-      value = handed-on c.from_residual.result c.in_err-l.field-0.0 c.from_residual.ensures.1 ∙ ap Err none.1 ∙ told.0;
+      value = handed-on c.from_residual-in_err-l.result c.in_err-l.field-0.0 c.from_residual-in_err-l.ensures.1 ∙ ap Err none.1 ∙ told.0;
       desk_after = told.1;
     }
 
 pub out_of_reach-requires : goal.out_of_reach-requires
 out_of_reach-requires c =
     let met : c.new.result ≡ offered c.args.literal = c.new.ensures ∙ ap offered (back c.args.literal c.ranges.literal) in
-    let is = offered-fine c.args.literal _ (sym met ∙ some-of-ok c.new.result BadLiteral c.ok_or.result c.in_ok-l.field-0 c.ok_or.ensures.value c.in_ok-l.was) in
+    let is = offered-fine c.args.literal _ (sym met ∙ some-of-ok c.new.result BadLiteral c.ok_or.result _ c.ok_or.ensures.value c.in_ok-l.was) in
     ap (λ (l : Literal). is_literal l.value) is.1 ∙ is.0
 
 pub returns-then-out_of_reach : goal.returns-then-out_of_reach
 returns-then-out_of_reach c =
     let met : c.new.result ≡ offered c.args.literal = c.new.ensures ∙ ap offered (back c.args.literal c.ranges.literal) in
     let told =
-    let made = sym met ∙ some-of-ok c.new.result BadLiteral c.ok_or.result c.in_ok-l.field-0 c.ok_or.ensures.value c.in_ok-l.was in
+    let made = sym met ∙ some-of-ok c.new.result BadLiteral c.ok_or.result _ c.ok_or.ensures.value c.in_ok-l.was in
     decide-out c.args.desk.now c.args.literal _ c.step_why.ensures c.in_ok-step_why.was _ made _
     c.out_of_reach.ensures c.if-out_of_reach.true
     in record { value = told.0; desk_after = told.1 }
@@ -47,7 +47,7 @@ returns-then-out_of_reach c =
 pub decide_step-requires : goal.decide_step-requires
 decide_step-requires c =
     let met : c.new.result ≡ offered c.args.literal = c.new.ensures ∙ ap offered (back c.args.literal c.ranges.literal) in
-    let made = sym met ∙ some-of-ok c.new.result BadLiteral c.ok_or.result c.in_ok-l.field-0 c.ok_or.ensures.value c.in_ok-l.was in
+    let made = sym met ∙ some-of-ok c.new.result BadLiteral c.ok_or.result _ c.ok_or.ensures.value c.in_ok-l.was in
     decide-room c.args.desk.now c.args.literal
     (decide-in c.args.desk.now c.args.literal _ c.step_why.ensures c.in_ok-step_why.was _ made _
     c.out_of_reach.ensures c.if-out_of_reach.false)
@@ -56,7 +56,7 @@ pub returns : goal.returns
 returns c =
     let met : c.new.result ≡ offered c.args.literal = c.new.ensures ∙ ap offered (back c.args.literal c.ranges.literal) in
     let told =
-    let made = sym met ∙ some-of-ok c.new.result BadLiteral c.ok_or.result c.in_ok-l.field-0 c.ok_or.ensures.value c.in_ok-l.was in
+    let made = sym met ∙ some-of-ok c.new.result BadLiteral c.ok_or.result _ c.ok_or.ensures.value c.in_ok-l.was in
     decide-done c.args.desk.now c.args.literal _ c.step_why.ensures c.in_ok-step_why.was _ made _
     c.out_of_reach.ensures _ c.if-out_of_reach.false c.decide_step.ensures
     in record { value = told.0; desk_after = told.1 }
