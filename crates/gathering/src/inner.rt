@@ -79,9 +79,7 @@ pub fn gather(
         cost,
         size: 1,
     };
-    let mut k = t.entries;
-    while k > 0 {
-        k -= 1;
+    for k in (0..t.entries).rev() {
         let variable = masks[k];
         let row = rows[k];
         g = join(desk, p, weights, variable, row, g, group);
@@ -101,11 +99,9 @@ pub fn take(group: &[u64], size: usize, cost: u64, weights: &mut [u64])
     requires { Standing size group.now weights.old }
     ensures { Taken cost size group.now weights.old weights.new }
 {
-    let mut k = 0;
-    while k < size {
-        let i = group[k] as usize;
+    for row in &group[..size] {
+        let i = *row as usize;
         let left = less(weights[i], cost);
         weights[i] = left;
-        k += 1;
     }
 }
