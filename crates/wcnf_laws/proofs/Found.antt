@@ -17,7 +17,8 @@ use Rattle.rules.specs.declared.WcnfRead.{WcnfRead}
 use Rattle.rules.specs.Refusals.{Judged, ◌when◌, as_in, first_due}
 use Rattle.rules.specs.Table.{row_words, row_words_of}
 use Rattle.rules.specs.Reader.{number_at, on_number}
-use Rattle.rules.specs.WcnfReader.{MembersRead, members, broken_line, on_members, members_from, lits_of_members, bad_members, clauses_why, clause_row, clauses_words}
+use Rattle.rules.specs.WcnfReader.{MembersRead, members, broken_line, on_members, members_from, lits_of_members, bad_members}
+use Rattle.rules.specs.WcnfReader.{clauses_why, clause_row, clauses_words}
 use Rattle.rules.specs.WcnfReader.{header_of, header_why, wcnf_read_why, wcnf_words, wcnf_read_as, wcnf_read, wcnf_table, file_says, header_says}
 use Rattle.rules.proofs.Judging.{refuse-fine, words-fine}
 use Rattle.text_laws.proofs.RowWords.{row_words_lem}

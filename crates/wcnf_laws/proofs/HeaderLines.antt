@@ -209,7 +209,9 @@ found_of s at a n b m c t d p run name r1 r2 r3 feed =
       clauses = refl;
       top = refl;
       held = record { variables-digits = r1.small; clauses-digits = r2.small; top_digits = r3.small };
-      stand = ap (stands s at) (header-bytes h) ∙ cons-stands s at p_code (gap a ++ (wcnf_name ++ variables_piece h)) (front-byte s at p_code (space ∷ []) p) s1;
+      stand =
+          ap (stands s at) (header-bytes h)
+          ∙ cons-stands s at p_code (gap a ++ (wcnf_name ++ variables_piece h)) (front-byte s at p_code (space ∷ []) p) s1;
       feed = ap (λ (x : ℕ). get_or s x 0) far ∙ feed;
       end = ap (λ (x : ℕ). x + 1) (sym far);
     }
