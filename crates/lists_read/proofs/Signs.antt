@@ -11,7 +11,7 @@ use lib.Bits.{or_zero_r}
 use lib.Dec.{ltb, leb}
 use lib.IntN.{pos}
 use lib.ListN.{get_or}
-use Rattle.masks.proofs.Choice.{and_left, and_right, clash, impossible}
+use Rattle.masks.proofs.Choice.{and_left, and_right, clash, impossible, some-pair}
 use Rattle.literals.specs.declared.Literal.{Literal}
 use Rattle.literals.specs.declared.Lits.{Lits}
 use Rattle.literals.specs.Literal.{most_variables, size, is_positive, opposite, bit_of, lits_of, offered}
@@ -58,13 +58,12 @@ turned last (Some (v, place)) l other next e o = go (ltb last v && leb v most_va
   where
     go : (b : Bool) → (ltb last v && leb v most_variables) ≡ b → Some (other, next) ≡ literal_read (literal_of false last (Some (v, place)))
     go true t =
-        let f : Some (record { value = pos v }, place) ≡ Some (l, next) = rw t at e in
-        let same : record { value = pos v } ≡ l = cc in
-        let there : next ≡ place = cc in
-        let is : other.value ≡ opposite (pos v) = o ∙ ap (λ (x : Literal). opposite x.value) (sym same) in
-        rw t (λ i. Some (record { value = is i }, there i))
+        let f : ◌≡◌ {A = Option (Literal × ℕ)} (Some (record { value = pos v }, place)) (Some (l, next)) = rw t at e in
+        let same = some-pair f in
+        let is : other.value ≡ opposite (pos v) = o ∙ ap (λ (x : Literal). opposite x.value) (sym same.0) in
+        rw t (λ i. Some (record { value = is i }, sym same.1 i))
     go false t =
-        let f : None ≡ Some (l, next) = rw t at e in
+        let f : ◌≡◌ {A = Option (Literal × ℕ)} None (Some (l, next)) = rw t at e in
         impossible (cc)
 
 pub turned-broken : (last : ℕ) (n : Option (ℕ × ℕ)) → literal_read (literal_of true last n) ≡ None
@@ -74,7 +73,7 @@ turned-broken last (Some (v, place)) e = go (ltb last v && leb v most_variables)
   where
     go : (b : Bool) → (ltb last v && leb v most_variables) ≡ b → None ≡ literal_read (literal_of false last (Some (v, place)))
     go true t =
-        let f : Some (record { value = pos v }, place) ≡ None = rw t at e in
+        let f : ◌≡◌ {A = Option (Literal × ℕ)} (Some (record { value = pos v }, place)) None = rw t at e in
         impossible (cc)
     go false t = rw t
 
@@ -111,13 +110,12 @@ module _ (k : ℕ) (s : List ℕ) (at last : ℕ) (lits : Lits) (from : ℕ) (mo
       go : (r : Option (Bool × ℕ × ℕ)) → literal_at s from last ≡ r → literal_read r ≡ Some (l, next) → lits_from (suc k) s at last lits ≡ lits_from k s next v all
       go None h q = impossible (cc)
       go (Some (p, w, place)) h q =
-          let same : record { value = signed p w } ≡ l = cc in
-          let there : place ≡ next = cc in
+          let same = some-pair q in
           let found = literal-found s from last p w place h in
-          let variable : w ≡ v = sym (size-signed p w) ∙ ap (λ (x : Literal). size x.value) same ∙ sym sized in
+          let variable : w ≡ v = sym (size-signed p w) ∙ ap (λ (x : Literal). size x.value) same.0 ∙ sym sized in
           let set : with_literal lits p w ≡ all =
           sym (grown lits p w (omega (arith, found.above)) found.most)
-          ∙ ap (λ (x : Literal). together lits (lits_of x.value)) same
+          ∙ ap (λ (x : Literal). together lits (lits_of x.value)) same.0
           ∙ ap (together lits) (sym is)
           ∙ sym adds in
-          lits-next k s at last lits from p w place more parted h ∙ (λ i. lits_from k s (there i) (variable i) (set i))
+          lits-next k s at last lits from p w place more parted h ∙ (λ i. lits_from k s (same.1 i) (variable i) (set i))

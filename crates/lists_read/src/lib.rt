@@ -41,8 +41,7 @@ pub fn lits_from(s: &[u8], from: usize) -> Option<(Lits, usize)>
     let mut lits = Lits::none();
     let mut last = 0;
     let mut at = from;
-    let mut i = 0;
-    while i <= Literal::MOST {
+    for _turn in 0..=Literal::MOST {
         let b = byte_at(s, at);
         if b == b'\n' {
             return Some((lits, at + 1));
@@ -57,7 +56,6 @@ pub fn lits_from(s: &[u8], from: usize) -> Option<(Lits, usize)>
         lits = lits.together(literal.lits());
         last = literal.size();
         at = next;
-        i += 1;
     }
     None
 }

@@ -29,12 +29,10 @@ pub fn is_digit(b: u8) -> bool
 pub fn stands(s: &[u8], at: usize, key: &[u8]) -> bool
     ensures { result ≡ stands s.now at key.now }
 {
-    let mut i = 0;
-    while i < key.len() {
+    for i in 0..key.len() {
         if byte_past(s, at, i) != key[i] {
             return false;
         }
-        i += 1;
     }
     true
 }

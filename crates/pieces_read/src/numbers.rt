@@ -10,15 +10,13 @@ use rules::TextRead;
 fn digit_run(s: &[u8], at: usize) -> usize
     ensures { result ≡ digit_run s.now at (suc most_digits) }
 {
-    let mut n = 0;
-    while n <= TextRead::DIGITS {
+    for n in 0..=TextRead::DIGITS {
         let b = bytes::byte_past(s, at, n);
         if !bytes::is_digit(b) {
             return n;
         }
-        n += 1;
     }
-    n
+    TextRead::DIGITS + 1
 }
 
 // The number that the first n of these digits make.
@@ -27,12 +25,10 @@ fn value_of(s: &[u8], at: usize, n: usize) -> u64
     ensures { result ≡ value_of s.now at n }
 {
     let mut value = 0;
-    let mut i = 0;
-    while i < n {
+    for i in 0..n {
         let b = bytes::byte_past(s, at, i);
         let digit = wide(b) - 48;
         value = value * 10 + digit;
-        i += 1;
     }
     value
 }

@@ -18,14 +18,15 @@ returns-then-byte_at-ne45 c =
 pub overflow_add-at : goal.overflow_add-at
 overflow_add-at c = omega (arith, inside c.args.s.now c.args.at (omega (arith, c.byte_at.ensures, c.if-byte_at-ne45.false)))
 
-pub returns-in_default : goal.returns-in_default
-returns-in_default c =
+pub returns-in_err-literal : goal.returns-in_err-literal
+returns-in_err-literal c =
     let minus = matched c.byte_at.ensures c.if-byte_at-ne45.false in
-    turned-broken c.args.last (number_at c.args.s.now (c.args.at + 1)) (matched c.variable_at-2.ensures c.in_default.is)
+    c.from_residual.ensures
+    ∙ turned-broken c.args.last (number_at c.args.s.now (c.args.at + 1)) (matched c.variable_at-2.ensures c.in_err-literal.was)
     ∙ sym (ap literal_read (with-minus c.args.s.now c.args.at c.args.last minus))
 
 pub returns : goal.returns
 returns c =
     let minus = matched c.byte_at.ensures c.if-byte_at-ne45.false in
-    turned c.args.last (number_at c.args.s.now (c.args.at + 1)) _ _ _ (matched c.variable_at-2.ensures c.in-Literal.is) c.negated-opposite.ensures
+    turned c.args.last (number_at c.args.s.now (c.args.at + 1)) _ _ _ (matched c.variable_at-2.ensures c.in_ok-literal.was) c.negated.ensures
     ∙ sym (ap literal_read (with-minus c.args.s.now c.args.at c.args.last minus))

@@ -13,32 +13,33 @@ use Rattle.lists_read.specs.Literals.{literal_read}
 use Rattle.lists_read.proofs.Signs.{no-literal, not-above, above}
 use Rattle.lists_read.proofs.variable_at.Goals as goal
 
-pub returns-in_default : goal.returns-in_default
-returns-in_default c = sym (ap literal_read (literal-broken _ c.args.last _ (matched c.number_at.ensures c.in_default.is)))
+pub returns-in_err-value : goal.returns-in_err-value
+returns-in_err-value c =
+    c.from_residual.ensures ∙ sym (ap literal_read (literal-broken _ c.args.last _ (matched c.number_at.ensures c.in_err-value.was)))
 
 pub overflow_cast-value : goal.overflow_cast-value
 overflow_cast-value c =
-    let small : SFits w64 (pos c.in-Number.value) = let number = matched c.number_at.ensures c.in-Number.is in
+    let small : SFits w64 (pos c.in_ok-value.value) = let number = matched c.number_at.ensures c.in_ok-value.was in
     record { sfits = omega (arith, (number-found _ _ _ _ number).small) } in
     small
 
-pub returns-in_default-new : goal.returns-in_default-new
-returns-in_default-new c =
-    let small : SFits w64 (pos c.in-Number.value) = let number = matched c.number_at.ensures c.in-Number.is in
+pub returns-in_err-literal : goal.returns-in_err-literal
+returns-in_err-literal c =
+    let small : SFits w64 (pos c.in_ok-value.value) = let number = matched c.number_at.ensures c.in_ok-value.was in
     record { sfits = omega (arith, (number-found _ _ _ _ number).small) } in
-    let number = matched c.number_at.ensures c.in-Number.is in
-    let refused = matched (c.new.ensures ∙ ap offered (back _ small)) c.in_default-new.is in
-    no-literal c.args.last _ _ _ number refused
+    let number = matched c.number_at.ensures c.in_ok-value.was in
+    let refused = matched (c.new.ensures ∙ ap offered (back _ small)) c.in_err-literal.was in
+    c.from_residual-in_err-literal.ensures ∙ no-literal c.args.last _ _ _ number refused
 
 pub returns-then-last-value : goal.returns-then-last-value
 returns-then-last-value c =
-    let small : SFits w64 (pos c.in-Number.value) = let number = matched c.number_at.ensures c.in-Number.is in
+    let small : SFits w64 (pos c.in_ok-value.value) = let number = matched c.number_at.ensures c.in_ok-value.was in
     record { sfits = omega (arith, (number-found _ _ _ _ number).small) } in
-    let number = matched c.number_at.ensures c.in-Number.is in
-    let fine = matched (c.new.ensures ∙ ap offered (back _ small)) c.in-Fine.is in
+    let number = matched c.number_at.ensures c.in_ok-value.was in
+    let fine = matched (c.new.ensures ∙ ap offered (back _ small)) c.in_ok-literal.was in
     above c.args.last _ _ _ number _ fine c.if-last-value.true
 
 pub returns-else-last-value : goal.returns-else-last-value
 returns-else-last-value c =
-    let number = matched c.number_at.ensures c.in-Number.is in
+    let number = matched c.number_at.ensures c.in_ok-value.was in
     not-above c.args.last _ _ _ number c.if-last-value.false

@@ -1,4 +1,3 @@
-use borrow.Author.Rules.{rules}
 use mathlib.Core.Path.{◌∙◌}
 use native.Mathlib.Nat.{add-zero}
 use native.Mathlib.Omega.{arith}
@@ -7,17 +6,17 @@ use Rattle.text_laws.proofs.Stands.{stands-more, stands-less, stands-end}
 use Rattle.pieces_read.proofs.bytes.stands.Goals as goal
 
 pub loop-i-init : goal.loop-i-init
-loop-i-init c = (search rules, rw add-zero)
+loop-i-init c = rw add-zero
 
 pub returns-then-byte_past-key : goal.returns-then-byte_past-key
 returns-then-byte_past-key c =
     let other = unmatched c.byte_past.ensures c.if-byte_past-key.true in
-    matched (stands-less c.args.s.now c.args.at c.loop-i.i c.args.key.now (omega arith) other) c.loop-i.invariant.1
+    matched (stands-less c.args.s.now c.args.at c.loop-i.i c.args.key.now (omega arith) other) c.loop-i.invariant
 
 pub loop-i-preserved : goal.loop-i-preserved
 loop-i-preserved c =
     let same = matched c.byte_past.ensures c.if-byte_past-key.false in
-    (omega arith, stands-more c.args.s.now c.args.at c.loop-i.i c.args.key.now (omega arith) same ∙ c.loop-i.invariant.1)
+    stands-more c.args.s.now c.args.at c.loop-i.i c.args.key.now (omega arith) same ∙ c.loop-i.invariant
 
 pub returns : goal.returns
-returns c = matched (stands-end c.args.s.now c.args.at c.loop-i.i c.args.key.now (omega arith)) c.loop-i.invariant.1
+returns c = matched (stands-end c.args.s.now c.args.at c.loop-i.i c.args.key.now (omega arith)) c.loop-i.invariant

@@ -8,8 +8,8 @@ use Rattle.pieces_read.proofs.numbers.number_at.Goals as goal
 pub value_of-value-requires : goal.value_of-value-requires
 value_of-value-requires c = (numeral-most c.digit_run-n.result c.byte_at-first.result c.if-n-first.true, omega (arith, c.digit_run-n.ensures))
 
-pub overflow_add-next : goal.overflow_add-next
-overflow_add-next c =
+pub overflow_add-result : goal.overflow_add-result
+overflow_add-result c =
     let number = number_is c.args.s.now c.args.at c.digit_run-n.result c.byte_at-first.result c.digit_run-n.ensures c.byte_at-first.ensures c.if-n-first.true in
     let inside = (number-found c.args.s.now c.args.at _ _ number).inside in
     omega (arith, inside)
