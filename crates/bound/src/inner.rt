@@ -80,11 +80,7 @@ fn smaller_at(decided: u64, v: u64, sums: &[u64]) -> u64
     let at = v as usize;
     let positive = sums[at];
     let negative = sums[NEGATIVE + at];
-    if positive < negative {
-        positive
-    } else {
-        negative
-    }
+    positive.min(negative)
 }
 
 // One pass over the variables, once the sums are gathered.

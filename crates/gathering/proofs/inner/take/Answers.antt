@@ -15,4 +15,4 @@ loop-row-preserved c =
     let n : k < c.args.size = omega (arith, length-take-le c.args.size c.args.group.now c.requires.stored) in
     let e : get_or (take c.args.size c.args.group.now) k 0 ≡ get_or c.args.group.now k 0 = get_or-take c.args.size c.args.group.now k 0 n in
     let within : get_or c.args.group.now k 0 < length c.loop-row.weights = omega (arith, c.requires.each k n, c.loop-row.invariant.words) in
-    rw e (taken_next _ _ _ k c.loop-row.weights c.loop-row.invariant within _ (rw e at c.less-left.ensures))
+    rw e (taken_next _ _ _ k c.loop-row.weights c.loop-row.invariant within _ (rw e at c.saturating_sub.ensures))
