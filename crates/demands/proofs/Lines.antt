@@ -76,7 +76,8 @@ record Faulted (j : Judged) : Type 0 where
 rest-either : (s : List ℕ) (m : ℕ) (r : RowsRead) → (rest_why s m r ≡ Ok tt) ⊎ Faulted (rest_why s m r)
 rest-either s m (rows words end) = go (not (eqb end (length s)))
   where
-    go : (b : Bool) → (refuse b (BadText (first_row_line + row_lines * m)) (Ok tt) ≡ Ok tt) ⊎ Faulted (refuse b (BadText (first_row_line + row_lines * m)) (Ok tt))
+    go : (b : Bool) → (refuse b (BadText (first_row_line + row_lines * m)) (Ok tt) ≡ Ok tt)
+        ⊎ Faulted (refuse b (BadText (first_row_line + row_lines * m)) (Ok tt))
     go true = inr (record { line = first_row_line + row_lines * m; said = refl })
     go false = inl refl
 rest-either s m (broken_at line) = inr (record { line = line; said = refl })
