@@ -9,12 +9,13 @@ use mathlib.Core.Logic.{◌⊎◌, inl, inr}
 use native.Mathlib.Omega.{arith}
 use lib.ListN.{length}
 use lib.IntN.{negsuc}
-use Rattle.masks.proofs.Choice.{impossible, clash}
+use Rattle.masks.proofs.Choice.{impossible, clash, some-same}
 use Rattle.masks.specs.Masks.{bit, has, without, none, below, single}
 use Rattle.masks.specs.Sums.{sum, every}
 use Rattle.masks.specs.Words.{zeroed}
 use Rattle.literals.specs.Literal.{size, is_positive, is_literal, bit_of, lits_of}
 use Rattle.literals.specs.Lits.{no_lits, together, is_empty, same_lits}
+use Rattle.rules.specs.declared.Best.{Best}
 use Rattle.rules.specs.declared.Choice.{Choice}
 use Rattle.rules.specs.declared.Refusal.{Refusal}
 use Rattle.rules.specs.declared.Status.{Status}
@@ -66,7 +67,7 @@ p4-weighs = (refl, refl, refl, refl)
 
 pub no-one-reading : (f : Found) (w : ℕ) → f.best ≡ Some (record { weight = w; reading = 7 }) → Finished (desk 3 p4 5) f → ⊥
 no-one-reading f w e g =
-    let same : g.reading ≡ 7 = let a = g.answers in cc in
+    let same : g.reading ≡ 7 = ap (λ (b : Best). b.reading) (some-same (sym g.answers ∙ e)) in
     let heavy : desk_weighs (desk 3 p4 5) 7 ≡ g.weight = ap (desk_weighs (desk 3 p4 5)) (sym same) ∙ g.weighed in
     omega (arith, p4-weighs.0, p4-weighs.1, g.least 6 p4-weighs.2 p4-weighs.3)
 

@@ -76,7 +76,8 @@ record Faulted (j : Judged) : Type 0 where
 rest-either : (s : List ℕ) (m : ℕ) (r : RowsRead) → (rest_why s m r ≡ Ok tt) ⊎ Faulted (rest_why s m r)
 rest-either s m (rows words end) = go (not (eqb end (length s)))
   where
-    go : (b : Bool) → (refuse b (BadText (first_row_line + row_lines * m)) (Ok tt) ≡ Ok tt) ⊎ Faulted (refuse b (BadText (first_row_line + row_lines * m)) (Ok tt))
+    go : (b : Bool) → (refuse b (BadText (first_row_line + row_lines * m)) (Ok tt) ≡ Ok tt)
+        ⊎ Faulted (refuse b (BadText (first_row_line + row_lines * m)) (Ok tt))
     go true = inr (record { line = first_row_line + row_lines * m; said = refl })
     go false = inl refl
 rest-either s m (broken_at line) = inr (record { line = line; said = refl })
@@ -135,9 +136,9 @@ module _ (s : List ℕ) (most room n b m from : ℕ) (e : head_at s ≡ Ok (thre
 
 read-judged : (s : List ℕ) (most room : ℕ) (h : Result HeadRead ℕ) → by_text_read (text_read_as (head_why most s room h) h) ≡ head_why most s room h
 read-judged s most room (Err line) = refl
-read-judged s most room (Ok head) = go (head_why most s room (Ok (three_lines head.variables head.budget head.rows head.next)))
+read-judged s most room (Ok said) = go (head_why most s room (Ok said))
   where
-    go : (j : Judged) → by_text_read (text_read_as j (Ok (three_lines head.variables head.budget head.rows head.next))) ≡ j
+    go : (j : Judged) → by_text_read (text_read_as j (Ok said)) ≡ j
     go (Ok _) = refl
     go (Err r) = refl
 
@@ -147,7 +148,7 @@ says-judged s most room = read-judged s most room (head_at s)
 
 head-reads : (s : List ℕ) (most room : ℕ) (h : Result HeadRead ℕ) → head_at s ≡ h → HeadSays s h → Reads s most room (head_why most s room h)
 head-reads s most room (Err k) e says = head k says.1 says.0
-head-reads s most room (Ok head) e says = lines-read s most room head.variables head.budget head.rows head.next e says
+head-reads s most room (Ok said) e says = lines-read s most room said.variables said.budget said.rows said.next e says
 
 text-reads : (s : List ℕ) (most room : ℕ) → Reads s most room (by_text_read (text_read most s room))
 text-reads s most room = subst (Reads s most room) (sym (says-judged s most room)) (head-reads s most room (head_at s) refl (head-says s))
@@ -166,15 +167,16 @@ held_back n b table most room held due =
 
 head-only : (s : List ℕ) (most room k : ℕ) → k ≤ 3 → FirstBroken s k → (h : Result HeadRead ℕ) → HeadSays s h → head_why most s room h ≡ Err (BadText k)
 head-only s most room k l broken (Err j) says = ap (λ (line : ℕ). Err (BadText line)) (one_place s j k says.0 broken)
-head-only s most room k l broken (Ok head) says = absurd (broken.breaks (fewer-in-form s k 3 l says.form))
+head-only s most room k l broken (Ok said) says = absurd (broken.breaks (fewer-in-form s k 3 l says.form))
 
 said-only : (s : List ℕ) (most room : ℕ) (h : Result HeadRead ℕ) → head_at s ≡ h → HeadSays s h → (why : Judged) → Reads s most room why
     → by_text_read (text_read most s room) ≡ head_why most s room h → by_text_read (text_read most s room) ≡ why
 said-only s most room h e says why (head k l broken) q = q ∙ head-only s most room k l broken h says
 said-only s most room (Err j) e says why (figures f r due) q = absurd (says.0.breaks (fewer-in-form s j 3 says.1 f))
-said-only s most room (Ok head) e says why (figures f r due) q = q ∙ figures-only s most room head.variables head.budget head.rows head.next e says f r due
+said-only s most room (Ok said) e says why (figures f r due) q = q ∙ figures-only s most room said.variables said.budget said.rows said.next e says f r due
 said-only s most room (Err j) e says why (rest f due k l broken) q = absurd (says.0.breaks (fewer-in-form s j 3 says.1 f))
-said-only s most room (Ok head) e says why (rest f due k l broken) q = q ∙ rest-only s most room head.variables head.budget head.rows head.next e says f due k broken
+said-only s most room (Ok said) e says why (rest f due k l broken) q =
+    q ∙ rest-only s most room said.variables said.budget said.rows said.next e says f due k broken
 said-only s most room h e says why (whole n b table held text due) q =
     ap (λ (t : List ℕ). by_text_read (text_read most t room)) text ∙ ap by_text_read (held_back n b table most room held due).answer
 

@@ -15,7 +15,8 @@ in_order_lem (Ok _) [] = refl
 in_order_lem (Err r) [] = refl
 in_order_lem judged (rule ∷ rest) = refl
 
-due-here : (q r : Refusal) (due : Bool) (rest : List Rule) → due ≡ true → Err q ≡ Err r → Due (q when due ∷ rest) (numbered r)
+due-here : (q r : Refusal) (due : Bool) (rest : List Rule) → due ≡ true → ◌≡◌ {A = Judged} (Err q) (Err r)
+    → Due (q when due ∷ rest) (numbered r)
 due-here q r due rest h e = let same : q ≡ r = cc in subst (λ (p : Refusal). Due (q when due ∷ rest) (numbered p)) same (here h)
 
 at_test : (q r : Refusal) (due : Bool) (rest : List Rule) → (first_due rest ≡ Err r → Due rest (numbered r)) → refuse due q (first_due rest) ≡ Err r

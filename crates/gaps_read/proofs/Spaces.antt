@@ -1,13 +1,16 @@
 -- Spaces and ends of lines, turn by turn: a turn that finds one, a turn that does not, and where the text ends.
 use Rattle.std.specs.Prelude.{None}
+use Rattle.std.specs.List.{prefix_len}
 use Prim.Native.Nat.{ℕ, zero, suc, ◌+◌, ◌-◌, ◌≤◌, ◌<◌}
-use mathlib.Core.Path.{◌≡◌, refl, ap, ◌∙◌}
+use mathlib.Core.Path.{◌≡◌, refl, ap}
 use mathlib.Core.Logic.{⊎_elim}
+use mathlib.Core.Bool.{Bool, true, false, not, cond}
 use mathlib.Core.List.{List}
 use native.Mathlib.Omega.{arith}
 use borrow.Author.Tests.{eq-eqb, ne_eqb, eqb-true}
 use lib.Dec.{eqb}
-use lib.ListN.{length, get_or, get_or-eq_default}
+use lib.ListN.{length, get_or, take, drop, length-drop, drop_of_length-le, get_or-eq_default}
+use lib.Seq.{take-length, drop-cons}
 use Rattle.masks.proofs.Choice.{cases, lt-or-le, clash}
 use Rattle.rules.specs.Text.{space, line_feed}
 use Rattle.rules.specs.Reader.{number_at}
@@ -48,18 +51,21 @@ run_inside (suc k) s at h =
 pub run-within : (k : ℕ) (s : List ℕ) (at : ℕ) → at ≤ length s → at + space_run s at k ≤ length s
 run-within k s at h = ⊎_elim (λ p. run_inside k s at p) (λ p. omega arith) (lt-or-le 0 (space_run s at k))
 
--- a turn: what was counted and what is left to count
-pub run-turn : (s : List ℕ) (at place all : ℕ) → at ≤ place → place < length s → get_or s place 0 ≡ space
-    → place - at + space_run s place (length s - (place - at)) ≡ all
-    → place + 1 - at + space_run s (place + 1) (length s - (place + 1 - at)) ≡ all
-run-turn s at place all low high e h =
-    let fuel : length s - (place - at) ≡ suc (length s - (place + 1 - at)) = omega arith in
-    let near : suc place ≡ place + 1 = omega arith in
-    let one : space_run s place (length s - (place - at)) ≡ suc (space_run s (place + 1) (length s - (place + 1 - at))) =
-    ap (space_run s place) fuel
-    ∙ run-yes s place (length s - (place + 1 - at)) e
-    ∙ ap (λ (p : ℕ). suc (space_run s p (length s - (place + 1 - at)))) near in
-    omega arith
+-- what is left from a place on
+pub left-is : (s : List ℕ) (at : ℕ) → take (length s - at) (drop at s) ≡ drop at s
+left-is s at = rw (← length-drop at s) (take-length (drop at s))
+
+-- what is counted up to the text's end is the run at the front of what is left
+pub run-prefix : (k : ℕ) (s : List ℕ) (at : ℕ) → length s ≤ at + k → prefix_len (λ b. eqb b space) (drop at s) ≡ space_run s at k
+unfolding space_run
+run-prefix zero s at h = let none : length s ≤ at = omega arith in rw (drop_of_length-le s none)
+run-prefix (suc k) s at h =
+    ⊎_elim
+    (λ (l : at < length s).
+    let more = run-prefix k s (suc at) (omega arith) in
+    rw (drop-cons s at 0) (ap (λ (n : ℕ). cond (eqb (get_or s at 0) space) n 0) (omega (arith, more))))
+    (λ (l : length s ≤ at). rw (drop_of_length-le s l, run_past s at (suc k) l))
+    (lt-or-le at (length s))
 
 -- ---- a number with a gap in front
 
@@ -74,20 +80,19 @@ module _ (s : List ℕ) (at : ℕ) where
 
 -- ---- the end of a line
 
-module _ (s : List ℕ) (at : ℕ) where
-  pub feed-here : at < length s → get_or s at 0 ≡ line_feed → feed_from (length s - at) s at ≡ at
-  unfolding feed_from
-  feed-here h e =
-      let fuel : length s - at ≡ suc (length s - (at + 1)) = omega arith in
-      rw (fuel, eq-eqb (get_or s at 0) line_feed e)
+pub feed-none : (s : List ℕ) (at : ℕ) → length s ≤ at → feed_from (length s - at) s at ≡ at
+unfolding feed_from
+feed-none s at h = let fuel : length s - at ≡ 0 = omega arith in rw fuel
 
-  pub feed-on : at < length s → (get_or s at 0 ≡ line_feed → ⊥) → feed_from (length s - at) s at ≡ feed_from (length s - (at + 1)) s (at + 1)
-  unfolding feed_from
-  feed-on h e =
-      let fuel : length s - at ≡ suc (length s - (at + 1)) = omega arith in
-      let near : suc at ≡ at + 1 = omega arith in
-      rw (fuel, ne_eqb (get_or s at 0) line_feed e, near)
-
-  pub feed-none : length s ≤ at → feed_from (length s - at) s at ≡ at
-  unfolding feed_from
-  feed-none h = let fuel : length s - at ≡ 0 = omega arith in rw fuel
+-- it stands behind what is at the front of what is left and no LF
+pub feed-prefix : (k : ℕ) (s : List ℕ) (at : ℕ) → at + k ≡ length s
+    → at + prefix_len (λ b. not (eqb b line_feed)) (drop at s) ≡ feed_from k s at
+unfolding feed_from
+feed-prefix zero s at h = let none : length s ≤ at = omega arith in rw (drop_of_length-le s none) (omega arith)
+feed-prefix (suc k) s at h =
+    let inside : at < length s = omega arith in
+    rw (drop-cons s at 0) (go _ _ (feed-prefix k s (suc at) (omega arith)) (eqb (get_or s at 0) line_feed))
+  where
+    go : (n all : ℕ) → suc at + n ≡ all → (b : Bool) → at + cond (not b) (1 + n) 0 ≡ cond b at all
+    go n all e true = omega arith
+    go n all e false = omega arith

@@ -4,19 +4,14 @@
 ghost use Rattle.std.specs.Prelude.{◌≡◌, ◌-◌, length};
 ghost use Rattle.rules.specs.WcnfReader.{space_run, parted_at, feed_from};
 
-
 // How many spaces stand from the place on.
 pub fn space_run(s: &[u8], at: usize) -> usize
     ensures { result ≡ space_run s.now at (length s.now) }
 {
-    let mut place = at;
-    while place < s.len() {
-        if s[place] != b' ' {
-            return place - at;
-        }
-        place += 1;
-    }
-    place - at
+    let Some(rest) = s.get(at..) else {
+        return 0;
+    };
+    rest.iter().take_while(|b| **b == b' ').count()
 }
 
 // A number with a gap in front, and the place behind it.
@@ -35,12 +30,8 @@ pub fn parted_at(s: &[u8], at: usize) -> Option<(u64, usize)>
 pub fn feed_from(s: &[u8], from: usize) -> usize
     ensures { result ≡ feed_from (length s.now - from) s.now from }
 {
-    let mut at = from;
-    while at < s.len() {
-        if s[at] == b'\n' {
-            return at;
-        }
-        at += 1;
-    }
-    at
+    let Some(rest) = s.get(from..) else {
+        return from;
+    };
+    from + rest.iter().take_while(|b| **b != b'\n').count()
 }

@@ -10,10 +10,11 @@ use mathlib.Core.Logic.Iff
 use mathlib.Core.Logic.{◌↔◌, ⊎_elim}
 use native.Mathlib.Omega.{arith}
 use lib.ListN.{length}
-use Rattle.masks.proofs.Choice.{impossible, clash, not_so}
+use Rattle.masks.proofs.Choice.{impossible, clash, not_so, some-same}
 use Rattle.rules.specs.declared.Status.{Status}
 use Rattle.rules.specs.declared.Walked.{Walked}
 use Rattle.rules.specs.declared.Choice.{Choice}
+use Rattle.rules.specs.declared.Best.{Best}
 use Rattle.rules.specs.declared.Found.{Found}
 use Rattle.rules.specs.declared.Losses.{Losses}
 use Rattle.rules.specs.declared.Refusal.TheVariants.{BadDesk}
@@ -76,8 +77,9 @@ status-stopped t k = (stopped-halted t k, λ e. rw e)
 pub finished-status : (t k : Bool) → (status_of t k ≡ Status.Stopped → ⊥) ↔ (t ≡ false)
 finished-status t k = (λ runs. not_so (λ e. runs (rw e)), λ e q. clash (stopped-halted t k q) e)
 
-reading-kept : (t : Bool) (weight reading w r : ℕ) → best_of t weight reading ≡ Some (record { weight = w; reading = r }) → (t ≡ true) × (weight ≡ w) × (reading ≡ r)
-reading-kept true weight reading w r e = (refl, cc, cc)
+reading-kept : (t : Bool) (weight reading w r : ℕ) → best_of t weight reading ≡ Some (record { weight = w; reading = r })
+    → (t ≡ true) × (weight ≡ w) × (reading ≡ r)
+reading-kept true weight reading w r e = let same = some-same e in (refl, ap (λ (b : Best). b.weight) same, ap (λ (b : Best). b.reading) same)
 reading-kept false weight reading w r e = impossible (cc)
 
 module _ (d : List ℕ) (choice : Choice) (budget : ℕ) (f : Found) (answer : searched d choice budget ≡ Ok f) where

@@ -1,12 +1,12 @@
 -- What the walk finds, in words of weights and hard rows.
 use Prim.Native.Nat.{ℕ, ◌≤◌, ◌<◌}
-use mathlib.Core.Path.{◌≡◌, sym, ◌∙◌}
+use mathlib.Core.Path.{◌≡◌, ◌∙◌}
 use mathlib.Core.List.{List}
-use mathlib.Core.Bool.{Bool, true, false}
+use mathlib.Core.Bool.{Bool, true}
 use native.Mathlib.Omega.{arith}
 use Rattle.masks.proofs.Choice.{not_so}
 use Rattle.rules.specs.Table.{most_weight}
-use Rattle.rules.specs.Desk.{keeps, hard_hold_on, weight_on}
+use Rattle.rules.specs.Desk.{keeps, weight_on}
 use Rattle.walk_laws.specs.Hard.{comes_to}
 use Rattle.walk_laws.specs.Right.{Foremost}
 use Rattle.walk_laws.proofs.Bounds.{weighs-most}

@@ -15,7 +15,7 @@ use Rattle.literals.specs.declared.Lits.{Lits}
 use Rattle.rules.specs.declared.Row.{Row}
 use Rattle.rules.specs.declared.Part.{Part}
 use Rattle.rules.specs.Table.{row_words_of, with_weight, new_row, is_hard}
-use Rattle.rules.specs.Desk.{head_words, in_use, capacity, standing, decided, truths, row_place, entry_place, desk_words}
+use Rattle.rules.specs.Desk.{head_words, in_use, capacity, standing, row_place, entry_place, desk_words}
 use Rattle.rules.specs.Desk.{row_on, set_row, set_weight, well_formed, decisions, satisfied, remnant, spent}
 use Rattle.rules.specs.Decide.{entered, bad_literal, decide_why, decision_entry, decide_step}
 use Rattle.rules.specs.Rewrite.{fits, given, well_fitted, rewrite_why, lightest, laid, rewriting_entry, rewrite_step}

@@ -17,7 +17,6 @@ use Rattle.masks.specs.Masks.{has, count}
 use Rattle.masks.specs.Sums.{sum}
 use Rattle.masks.proofs.Choice.{cases, and_left, and_right}
 use Rattle.masks.proofs.Bits.{has-pow-same}
-use Rattle.masks.proofs.Sets.{apart}
 use Rattle.masks.proofs.Counts.{count-one}
 use Rattle.masks.proofs.Sums.{sum-empty, sum-suc}
 use Rattle.literals.specs.declared.Lits.{Lits}

@@ -123,7 +123,7 @@ neither-ten : (b : Bool) (r : Refusal) (after : Judged) → (r ≡ BadDesk → �
 neither-ten true r after h k e = h (cc)
 neither-ten false r after h k e = k e
 
-fine-not-ten : (Ok tt) ≡ Err BadDesk → ⊥
+fine-not-ten : ◌≡◌ {A = Judged} (Ok tt) (Err BadDesk) → ⊥
 fine-not-ten e = impossible (cc)
 
 pub never-decide : (d : List ℕ) (l : ℤ) → well_formed d ≡ true → decide_why d l ≡ Err BadDesk → ⊥
@@ -231,7 +231,8 @@ module _ (start : List ℕ) (weight : ℕ → ℕ) (base : Known start weight st
 -- ---- what stands can be made again, and taken back
 
 module _ (start : List ℕ) (weight : ℕ → ℕ) (base : Known start weight start []) where
-  one-more-fine : (d : List ℕ) (calls : List Call) (call : Call) → AllFine d calls → call_why (after_calls d calls) call ≡ Ok tt → AllFine d (calls ++ (call ∷ []))
+  one-more-fine : (d : List ℕ) (calls : List Call) (call : Call) → AllFine d calls → call_why (after_calls d calls) call ≡ Ok tt
+      → AllFine d (calls ++ (call ∷ []))
   unfolding after_calls
   one-more-fine d [] call a e = (e, tt)
   one-more-fine d (x ∷ calls) call a e = (a.0, one-more-fine (after_call d x) calls call a.1 e)

@@ -1,14 +1,14 @@
 -- The header: what its definitions come to in each case, and that the line it is said to be on is one of the text's.
 use Rattle.std.specs.Prelude.{Option, Some, None, Result, Ok, Err}
 use Prim.Native.Nat.{ℕ, zero, suc, ◌+◌, ◌-◌, ◌<◌, ◌≤◌}
-use mathlib.Core.Path.{◌≡◌, refl}
+use mathlib.Core.Path.{◌≡◌, refl, sym, ap}
 use mathlib.Core.Bool.{Bool, true, false, cond, ◌&&◌}
 use mathlib.Core.List.{List, [], ◌∷◌}
 use native.Mathlib.Omega.{arith}
 use borrow.Author.Tests.{eq-eqb, ne_eqb, lt-ltb, le-ltb}
 use lib.Dec.{ltb}
 use lib.ListN.{length, get_or}
-use Rattle.masks.proofs.Choice.{impossible}
+use Rattle.masks.proofs.Choice.{impossible, ok-same}
 use Rattle.rules.specs.declared.WcnfHead.{WcnfHead}
 use Rattle.rules.specs.Text.{bytes, line_feed}
 use Rattle.rules.specs.Reader.{stands, ended, on_number}
@@ -106,7 +106,7 @@ module _ (line v m t n l : ℕ) where
   Says h = h ≡ Ok (header_says v m t n l)
 
   same_line : (a b c d : ℕ) → Says (Ok (header_says a b c d line)) → l ≡ line
-  same_line a b c d e = cc
+  same_line a b c d e = sym (ap (λ (h : WcnfHead). h.line) (ok-same e))
 
   figures-line : (s : List ℕ) (at : ℕ) → Says (figures_at s at line) → l ≡ line
   unfolding figures_at

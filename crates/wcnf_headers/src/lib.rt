@@ -50,8 +50,7 @@ pub fn header_of(s: &[u8]) -> Result<WcnfHead, u64>
 {
     let mut at = 0;
     let mut line = 1;
-    let mut i = 0;
-    while i <= s.len() {
+    for _turn in 0..=s.len() {
         if pieces_read::byte_at(s, at) != b'c' {
             return header_at(s, at, line);
         }
@@ -61,7 +60,6 @@ pub fn header_of(s: &[u8]) -> Result<WcnfHead, u64>
         }
         at = feed + 1;
         line += 1;
-        i += 1;
     }
     Err(line)
 }

@@ -1,6 +1,6 @@
 -- Refusals exactly when. Lines that the text begins with are read in turn, so a clause with a fault is refused whatever follows it; and among the clauses
 -- of a text that is read there is a first with a fault, or none.
-use Rattle.std.specs.Prelude.{Some, Ok, Err}
+use Rattle.std.specs.Prelude.{Ok, Err}
 use Prim.Native.Nat.{ℕ, zero, suc, ◌+◌, ◌-◌, ◌*◌, ◌≤◌}
 use mathlib.Core.Path.{◌≡◌, refl, sym, ap, subst, ◌∙◌}
 use mathlib.Core.Logic.{◌⊎◌, inl, inr, ⊎_elim}
@@ -239,23 +239,23 @@ begins-front s cs h front more b =
     passed-begins s cs h front b.free b.header (each-front front more b.each) (omega (arith, b.few)) w.0
     (fewer-lines (length front) (length (front ++ more)) (drop w.0.next s) (lines_text (front ++ more)) some all ∙ front-lines front more)
 
-abbrev Some : List ℕ → ℕ → ℕ → Type 0
-Some s most room = (why : Judged) × Given s most room why
+abbrev IsGiven : List ℕ → ℕ → ℕ → Type 0
+IsGiven s most room = (why : Judged) × Given s most room why
 
 module _ (s : List ℕ) (most room : ℕ) (cs : List (List ℕ)) (h : HeaderLine) (lines : List ClauseLine) (b : Begins s cs h lines)
-    (end : NoneDue most room h lines → Some s most room) where
-  by-fault : figures_first most room h (Ok tt) ≡ Ok tt → FirstFault h lines → Some s most room
+    (end : NoneDue most room h lines → IsGiven s most room) where
+  by-fault : figures_first most room h (Ok tt) ≡ Ok tt → FirstFault h lines → IsGiven s most room
   by-fault free (faultless each) = end (record { figures = free; clauses = each })
   by-fault free (badly before c behind is each bad) =
       let front = begins-front s cs h (before ++ (c ∷ [])) behind (subst (Begins s cs h) is b) in
       let none : NoneDue most room h before = record { figures = free; clauses = each } in
       (Err (BadLiterals (length before)), bad_clause cs h before c front none (bad-found h.variables (numbers_of c.literals) bad))
 
-  by-figures : (j : Judged) → figures_first most room h (Ok tt) ≡ j → Some s most room
+  by-figures : (j : Judged) → figures_first most room h (Ok tt) ≡ j → IsGiven s most room
   by-figures (Ok _) e = by-fault e (first-fault h (few-variables most room h e) lines)
   by-figures (Err r) e = (Err r, figures cs h (begins-front s cs h [] lines b) r e)
 
-some-given : (s : List ℕ) (most room : ℕ) → Shape s → Some s most room
+some-given : (s : List ℕ) (most room : ℕ) → Shape s → IsGiven s most room
 unfolding form_text
 some-given s most room (headless cs each alike broken) = (Err (BadText (length cs + 1)), no_header cs each alike broken)
 some-given s most room (whole f held is) =

@@ -1,21 +1,24 @@
 -- What a competition file that is read says of its figures and its words.
 use Rattle.std.specs.Prelude.{Option, Some, None, Result, Ok, Err}
 use Prim.Native.Nat.{ℕ, zero, suc, ◌+◌, ◌*◌, ◌≤◌}
-use mathlib.Core.Path.{◌≡◌, refl}
+use mathlib.Core.Path.{◌≡◌, refl, ap}
 use mathlib.Core.List.{List, [], ◌∷◌, ◌++◌}
 use native.Mathlib.Omega.{arith}
 use borrow.Author.Tests.{ltb-false}
 use lib.Dec.{ltb}
 use lib.ListN.{length, take, drop, length-append}
 use lib.Seq.{take_at}
-use Rattle.masks.proofs.Choice.{impossible}
+use Rattle.masks.proofs.Choice.{impossible, ok-same}
 use Rattle.literals.specs.Literal.{most_variables}
+use Rattle.rules.specs.declared.Refusal.{Refusal}
 use Rattle.rules.specs.declared.Refusal.TheVariants.{TooManyVariables, BadTable, NoRoom, BadLiterals, BadText}
 use Rattle.rules.specs.declared.WcnfHead.{WcnfHead}
+use Rattle.rules.specs.declared.WcnfRead.{WcnfRead}
 use Rattle.rules.specs.Refusals.{Judged, ◌when◌, as_in, first_due}
 use Rattle.rules.specs.Table.{row_words, row_words_of}
 use Rattle.rules.specs.Reader.{number_at, on_number}
-use Rattle.rules.specs.WcnfReader.{MembersRead, members, broken_line, on_members, members_from, lits_of_members, bad_members, clauses_why, clause_row, clauses_words}
+use Rattle.rules.specs.WcnfReader.{MembersRead, members, broken_line, on_members, members_from, lits_of_members, bad_members}
+use Rattle.rules.specs.WcnfReader.{clauses_why, clause_row, clauses_words}
 use Rattle.rules.specs.WcnfReader.{header_of, header_why, wcnf_read_why, wcnf_words, wcnf_read_as, wcnf_read, wcnf_table, file_says, header_says}
 use Rattle.rules.proofs.Judging.{refuse-fine, words-fine}
 use Rattle.text_laws.proofs.RowWords.{row_words_lem}
@@ -83,18 +86,18 @@ read-fine most s room n m h = go (header_of s) refl
         → wcnf_read_as j (Ok (header_says v k top next line)) ≡ Ok (file_says n m) → header_of s ≡ Ok (header_says v k top next line)
         → ReadFine most s room n m
     judged v k top next line (Ok _) why q e =
-        let vn : v ≡ n = cc in
-        let km : k ≡ m = cc in
-        rw (← vn, ← km) (header-fine most s room v k top next line e why)
+        let same = ok-same q in
+        let v-is : v ≡ n = ap (λ (x : WcnfRead). x.variables) same in
+        let k-is : k ≡ m = ap (λ (x : WcnfRead). x.rows) same in
+        rw (← v-is, ← k-is) (header-fine most s room v k top next line e why)
     judged v k top next line (Err r) why q e = impossible (cc)
 
     go : (x : Result WcnfHead ℕ) → header_of s ≡ x → ReadFine most s room n m
-    go (Ok head_is) e =
-        let head = Ok (header_says head_is.variables head_is.clauses head_is.top head_is.next head_is.line) in
-        let h2 : wcnf_read_as (header_why most s room head) head ≡ Ok (file_says n m) = rw e at h in
-        judged head_is.variables head_is.clauses head_is.top head_is.next head_is.line (header_why most s room (Ok (header_says head_is.variables head_is.clauses head_is.top head_is.next head_is.line))) refl h2 e
+    go (Ok head) e =
+        let h2 : wcnf_read_as (header_why most s room (Ok head)) (Ok head) ≡ Ok (file_says n m) = rw e at h in
+        judged head.variables head.clauses head.top head.next head.line (header_why most s room (Ok head)) refl h2 e
     go (Err bad) e =
-        let h2 : Err (BadText bad) ≡ Ok (file_says n m) = rw e at h in
+        let h2 : ◌≡◌ {A = Result WcnfRead Refusal} (Err (BadText bad)) (Ok (file_says n m)) = rw e at h in
         impossible (cc)
 
 -- the words of the rows stand at the front of the table

@@ -1,6 +1,6 @@
 -- Spaces before a number. A gap that stands there, with no space behind it, is the run that is counted; and a run that is counted stands there. So a number
 -- behind a gap is read, and a number that is read so stands there behind a gap.
-use Rattle.std.specs.Prelude.{Some, None}
+use Rattle.std.specs.Prelude.{Option, Some, None}
 use Prim.Native.Nat.{ℕ, zero, suc, ◌+◌, ◌^◌, ◌<◌, ◌≤◌}
 use mathlib.Core.Path.{◌≡◌, refl, sym, ap, ◌∙◌}
 use mathlib.Core.Bool.{Bool, true, false, cond}
@@ -124,5 +124,5 @@ unfolding parted_at
 parted-found s at v next e = go (space_run s at (length s)) refl
   where
     go : (n : ℕ) → space_run s at (length s) ≡ n → PartedFound s at v next
-    go zero r = let q : None ≡ Some (v, next) = rw r at e in impossible (cc)
+    go zero r = let q : ◌≡◌ {A = Option (ℕ × ℕ)} None (Some (v, next)) = rw r at e in impossible (cc)
     go (suc k) r = found-behind s at k v next r (rw (r, eqb-suc-zero k) at e)

@@ -8,7 +8,7 @@ use native.Mathlib.Omega.{arith}
 use borrow.Author.Tests.{eq-eqb, eqb-true}
 use lib.Dec.{eqb}
 use lib.ListN.{length, get_or, length-append}
-use Rattle.masks.proofs.Choice.{impossible, and_left, and_right}
+use Rattle.masks.proofs.Choice.{impossible, and_left, and_right, ok-same}
 use Rattle.rules.specs.declared.WcnfHead.{WcnfHead}
 use Rattle.rules.specs.Text.{bytes, number_text, space, line_feed}
 use Rattle.rules.specs.Reader.{stands, ended, on_number}
@@ -19,6 +19,18 @@ use Rattle.text_laws.proofs.Stands.{first-stands, second-stands, both-stand, byt
 use Rattle.text_laws.proofs.Lines.{end-no-digit}
 use Rattle.wcnf_laws.specs.Form.{gap, HeaderLine, header_bytes, HeaderHeld}
 use Rattle.wcnf_laws.proofs.Gaps.{gap-long, gap-no-feed, gap-front, gap-run, run-stands, space-no-digit, PartedFound, parted-reads, parted-found}
+
+-- headers that are read as the same say the same
+pub same_header : {h k : WcnfHead} → ◌≡◌ {A = Result WcnfHead ℕ} (Ok h) (Ok k)
+    → (h.variables ≡ k.variables) × (h.clauses ≡ k.clauses) × (h.top ≡ k.top) × (h.next ≡ k.next) × (h.line ≡ k.line)
+same_header {h} {k} e =
+    let p : h ≡ k = ok-same e in (
+      ap (λ (x : WcnfHead). x.variables) p,
+      ap (λ (x : WcnfHead). x.clauses) p,
+      ap (λ (x : WcnfHead). x.top) p,
+      ap (λ (x : WcnfHead). x.next) p,
+      ap (λ (x : WcnfHead). x.line) p,
+    )
 
 abbrev pub p_code : ℕ
 p_code = 112
@@ -197,7 +209,9 @@ found_of s at a n b m c t d p run name r1 r2 r3 feed =
       clauses = refl;
       top = refl;
       held = record { variables-digits = r1.small; clauses-digits = r2.small; top_digits = r3.small };
-      stand = ap (stands s at) (header-bytes h) ∙ cons-stands s at p_code (gap a ++ (wcnf_name ++ variables_piece h)) (front-byte s at p_code (space ∷ []) p) s1;
+      stand =
+          ap (stands s at) (header-bytes h)
+          ∙ cons-stands s at p_code (gap a ++ (wcnf_name ++ variables_piece h)) (front-byte s at p_code (space ∷ []) p) s1;
       feed = ap (λ (x : ℕ). get_or s x 0) far ∙ feed;
       end = ap (λ (x : ℕ). x + 1) (sym far);
     }
@@ -215,14 +229,10 @@ module _ (s : List ℕ) (at line N M T next l : ℕ) where
         → Found
     by-feed n b m c t d r1 r2 r3 false f e = impossible (cc)
     by-feed n b m c t d r1 r2 r3 true f e =
-        let nn : n ≡ N = cc in
-        let mm : m ≡ M = cc in
-        let tt : t ≡ T = cc in
-        let dd : d + 1 ≡ next = cc in
-        let ll : line ≡ l = cc in
+        let same = same_header e in
         let found = found_of s at a n b m c t d p run name (parted-found s (at + 1 + suc a + 4) n b r1) (parted-found s b m c r2) (parted-found s c t d r3)
         (eqb-true (get_or s d 0) line_feed f) in
-        (rw (← nn, ← mm, ← tt, ← dd) found, sym ll)
+        (rw (← same.0, ← same.1, ← same.2, ← same.3) found, sym same.4)
 
     by-top : (n b m c : ℕ) → parted_at s (at + 1 + suc a + 4) ≡ Some (n, b) → parted_at s b ≡ Some (m, c) → (x : Option (ℕ × ℕ)) → parted_at s c ≡ x
         → on_number (ended s x) (Err line) (λ top end. Ok (header_says n m top end line)) ≡ Ok (header_says N M T next l) → Found

@@ -300,7 +300,7 @@ one_place s j k p q =
 pub unbroken : (s : List ℕ) (f : Form) → Held f → s ≡ form_text f → (k : ℕ) → FirstBroken s k → ⊥
 unbroken s f held is k b = b.breaks (record { form = f; held = held; alike = ap (first_lines k) is })
 
-same_place : (a k : ℕ) → Err (BadText a) ≡ Err (BadText k) → a ≡ k
+same_place : (a k : ℕ) → ◌≡◌ {A = Judged} (Err (BadText a)) (Err (BadText k)) → a ≡ k
 same_place a k e = cc
 
 -- a refusal 20 is given with the first line that breaks the form, where nothing else is due before

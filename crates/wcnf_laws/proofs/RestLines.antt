@@ -9,7 +9,7 @@ use mathlib.Core.List.{List, [], ◌∷◌, ◌++◌}
 use native.Mathlib.Omega.{arith}
 use lib.IntN.{ℤ}
 use lib.ListN.{length, get_or, drop, length-append, length-drop, drop_of_length-le}
-use Rattle.masks.proofs.Choice.{impossible, eq-or-ne}
+use Rattle.masks.proofs.Choice.{impossible, eq-or-ne, some-pair}
 use Rattle.rules.specs.Refusals.{Judged}
 use Rattle.rules.specs.Text.{line_feed}
 use Rattle.rules.specs.Reader.{stands, number_at}
@@ -178,7 +178,7 @@ no-members : (s : List ℕ) (at w mid : ℕ) → number_at s at ≡ Some (w, mid
     → (c : ClauseLine) → ClauseHeld c → first_line (drop at s) ≡ ended (clause_bytes c) → ⊥
 no-members s at w mid p e c h q =
     let here = here-line s at (clause_bytes c) q in
-    let read = weight-read s at c h here.0 here.1 in
+    let same = some-pair (sym p ∙ weight-read s at c h here.0 here.1) in
     let all = members-read s at c h here.0 here.1 in
     impossible (cc)
 

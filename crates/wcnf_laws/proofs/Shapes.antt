@@ -19,7 +19,7 @@ use Rattle.text_laws.proofs.Cuts.{lines-ended, fewer-lines}
 use Rattle.wcnf_laws.specs.Form.{ClauseLine, HeaderLine, header_bytes, comment_bytes, Form, lines_text, under_comments, form_text}
 use Rattle.wcnf_laws.specs.Form.{Each, ClauseHeld, HeaderHeld, Held, InForm, FirstBroken}
 use Rattle.wcnf_laws.specs.Order.{Shape, whole, headless, cut}
-use Rattle.wcnf_laws.proofs.HeaderLines.{header-front, header-no-feed, header_read, header-found, own_line}
+use Rattle.wcnf_laws.proofs.HeaderLines.{same_header, header-front, header-no-feed, header_read, header-found, own_line}
 use Rattle.wcnf_laws.proofs.CommentLines.{c_code, begins, comment-bytes, comment-no-feed, no-comment, feed-is}
 use Rattle.wcnf_laws.proofs.CommentLines.{comment-found, comment-passed, comment-unended}
 use Rattle.wcnf_laws.proofs.RestLines.{Here, here, here-front, found_here}
@@ -185,9 +185,7 @@ module _ (k : ℕ) (s : List ℕ) (at line : ℕ) (l : at ≤ length s) where
 pub one-header : (s : List ℕ) (at : ℕ) (g h : HeaderLine) (a b : ℕ) → HeaderHeld g → HeaderHeld h → Here s at (header_bytes g) a → Here s at (header_bytes h) b
     → g.clauses ≡ h.clauses
 one-header s at g h a b p q x y =
-    let mine = header_read s at 0 g p x.stand x.feed in
-    let theirs = header_read s at 0 h q y.stand y.feed in
-    cc
+    (same_header (sym (header_read s at 0 g p x.stand x.feed) ∙ header_read s at 0 h q y.stand y.feed)).1
 
 module _ (s : List ℕ) (at : ℕ) (h : HeaderLine) (next : ℕ) (held : HeaderHeld h) (a : Here s at (header_bytes h) next) where
   pub header-in : (j : ℕ) (lines : List ClauseLine) → length lines ≡ h.clauses → Each ClauseHeld lines

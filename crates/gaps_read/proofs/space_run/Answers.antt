@@ -1,21 +1,26 @@
-use Prim.Native.Nat.{◌-◌}
-use mathlib.Core.Path.{◌≡◌}
-use native.Mathlib.Nat.{sub-zero, zero-add}
+-- `space_run` meets its contract: past the text's end there is none, and else those at the front of what is left are counted.
+use mathlib.Core.Path.{sym, ◌∙◌}
 use native.Mathlib.Omega.{arith}
-use lib.ListN.{length}
-use Rattle.gaps_read.proofs.Spaces.{run-no, run_past, run-turn}
+use borrow.Author.Rules.{rules}
+use borrow.Author.Tests.{tests}
+use lib.Dec.{eqb}
+use lib.ListN.{length, drop}
+use Rattle.std.proofs.lemmas.Iterator.{YieldsList-from_slice}
+use Rattle.std.proofs.lemmas.Iterator.Consumers.{count_from_yields_List}
+use Rattle.std.proofs.lemmas.Iterator.Search.{YieldsList-from_take_while}
+use Rattle.std.proofs.lemmas.List.Folds.{length-prefix_len}
+use Rattle.gaps_read.proofs.Spaces.{run_past, left-is, run-prefix}
 use Rattle.gaps_read.proofs.space_run.Goals as goal
 
-pub loop-place-init : goal.loop-place-init
-loop-place-init c =
-    let none : c.args.at - c.args.at ≡ 0 = omega arith in
-    (omega arith, rw (none, sub-zero (length c.args.s.now)) (zero-add _))
-
-pub returns-then-s-place-ne32 : goal.returns-then-s-place-ne32
-returns-then-s-place-ne32 c = omega (arith, c.loop-place.invariant.1, run-no c.args.s.now c.loop-place.place (length c.args.s.now - (c.loop-place.place - c.args.at)) c.if-s-place-ne32.true)
-
-pub loop-place-preserved : goal.loop-place-preserved
-loop-place-preserved c = (omega arith, run-turn c.args.s.now c.args.at c.loop-place.place _ c.loop-place.invariant.0 (omega arith) c.if-s-place-ne32.false c.loop-place.invariant.1)
+pub returns-in_default : goal.returns-in_default
+returns-in_default c = sym (run_past c.args.s.now c.args.at _ (omega (arith, c.in_default.ensures.lookup.0)))
 
 pub returns : goal.returns
-returns c = omega (arith, c.loop-place.invariant.1, run_past c.args.s.now c.loop-place.place (length c.args.s.now - (c.loop-place.place - c.args.at)) (omega arith))
+returns c =
+    let rest = drop c.args.at c.args.s.now in
+    let left = c.in-Some.ensures.lookup.0.2 ∙ left-is c.args.s.now c.args.at in
+    count_from_yields_List c.take_while.result _ c.count.ensures.ran
+    (YieldsList-from_take_while _ (λ b. eqb b 32) (YieldsList-from_slice rest (cc)) c.take_while.ensures.closure c.take_while.ensures.done
+    (λ x b q k. search (rules, tests)))
+    ∙ length-prefix_len (λ b. eqb b 32) rest
+    ∙ run-prefix (length c.args.s.now) c.args.s.now c.args.at (omega arith)

@@ -1,4 +1,4 @@
-use Prim.Native.Nat.{ℕ, suc, ◌+◌, ◌-◌}
+use Prim.Native.Nat.{ℕ, suc, ◌+◌, ◌-◌, ◌≤◌}
 use mathlib.Core.Path.{◌≡◌, refl, ap, ◌∙◌}
 use mathlib.Core.List.{List}
 use native.Mathlib.Nat.{sub-zero}
@@ -13,39 +13,40 @@ starts : (s : List ℕ) → header_from (suc (length s) - 0) s 0 1 ≡ header_of
 unfolding header_of
 starts s = ap (λ (k : ℕ). header_from k s 0 1) (sub-zero (suc (length s)))
 
-pub loop-i-init : goal.loop-i-init
-loop-i-init c = (omega arith, refl, starts c.args.s.now)
+-- one turn of those that are left
+turn : (s : List ℕ) (i at line : ℕ) → i ≤ length s → header_from (suc (length s) - i) s at line ≡ header_of s
+    → header_from (suc (length s - i)) s at line ≡ header_of s
+turn s i at line h e =
+    let left : suc (length s - i) ≡ suc (length s) - i = omega arith in
+    ap (λ (k : ℕ). header_from k s at line) left ∙ e
+
+pub loop-turn-init : goal.loop-turn-init
+loop-turn-init c = (refl, starts c.args.s.now)
 
 pub returns-then-byte_at-ne99 : goal.returns-then-byte_at-ne99
 returns-then-byte_at-ne99 c =
-    let turn : header_from (suc (suc (length c.args.s.now) - (c.loop-i.i + 1)))
-    c.args.s.now c.loop-i.at c.loop-i.line
-    ≡ header_of c.args.s.now = let left : suc (suc (length c.args.s.now) - (c.loop-i.i + 1)) ≡ suc (length c.args.s.now) - c.loop-i.i = omega arith in
-    ap (λ (k : ℕ). header_from k c.args.s.now c.loop-i.at c.loop-i.line) left ∙ c.loop-i.invariant.2 in
+    let due = turn c.args.s.now c.loop-turn._turn c.loop-turn.at c.loop-turn.line (omega arith) c.loop-turn.invariant.1 in
     let plain = unmatched c.byte_at.ensures c.if-byte_at-ne99.true in
-    c.header_at.ensures ∙ matched (head-here _ _ c.loop-i.at c.loop-i.line plain) turn
+    c.header_at.ensures ∙ matched (head-here _ _ c.loop-turn.at c.loop-turn.line plain) due
 
 pub returns-then-feed-s : goal.returns-then-feed-s
 returns-then-feed-s c =
-    let turn : header_from (suc (suc (length c.args.s.now) - (c.loop-i.i + 1)))
-    c.args.s.now c.loop-i.at c.loop-i.line
-    ≡ header_of c.args.s.now = let left : suc (suc (length c.args.s.now) - (c.loop-i.i + 1)) ≡ suc (length c.args.s.now) - c.loop-i.i = omega arith in
-    ap (λ (k : ℕ). header_from k c.args.s.now c.loop-i.at c.loop-i.line) left ∙ c.loop-i.invariant.2 in
+    let due = turn c.args.s.now c.loop-turn._turn c.loop-turn.at c.loop-turn.line (omega arith) c.loop-turn.invariant.1 in
     let comment = matched c.byte_at.ensures c.if-byte_at-ne99.false in
-    matched (head-unended _ _ c.loop-i.at c.loop-i.line _ c.feed_from-feed.ensures comment c.if-feed-s.true) turn
+    matched (head-unended _ _ c.loop-turn.at c.loop-turn.line _ c.feed_from-feed.ensures comment c.if-feed-s.true) due
 
-pub loop-i-preserved : goal.loop-i-preserved
-loop-i-preserved c =
-    let turn : header_from (suc (suc (length c.args.s.now) - (c.loop-i.i + 1)))
-    c.args.s.now c.loop-i.at c.loop-i.line
-    ≡ header_of c.args.s.now = let left : suc (suc (length c.args.s.now) - (c.loop-i.i + 1)) ≡ suc (length c.args.s.now) - c.loop-i.i = omega arith in
-    ap (λ (k : ℕ). header_from k c.args.s.now c.loop-i.at c.loop-i.line) left ∙ c.loop-i.invariant.2 in
+pub loop-turn-preserved : goal.loop-turn-preserved
+loop-turn-preserved c =
+    let due = turn c.args.s.now c.loop-turn._turn c.loop-turn.at c.loop-turn.line (omega arith) c.loop-turn.invariant.1 in
     let comment = matched c.byte_at.ensures c.if-byte_at-ne99.false in
-    let next = head-on (suc (length c.args.s.now) - (c.loop-i.i + 1)) c.args.s.now c.loop-i.at c.loop-i.line c.feed_from-feed.result c.feed_from-feed.ensures comment in
-    (omega arith, omega (arith, c.loop-i.invariant.1), matched (next c.if-feed-s.false) turn)
+    let left : length c.args.s.now - c.loop-turn._turn ≡ suc (length c.args.s.now) - (c.loop-turn._turn + 1) = omega arith in
+    let next = head-on _ c.args.s.now c.loop-turn.at c.loop-turn.line _ c.feed_from-feed.ensures comment c.if-feed-s.false in
+    (omega (arith, c.loop-turn.invariant.0), rw (← left) (matched next due))
 
-pub returns : goal.returns
-returns c =
-    let none : 0 ≡ suc (length c.args.s.now) - c.loop-i.i = omega arith in
-    matched (head-none c.args.s.now c.loop-i.at c.loop-i.line)
-    (ap (λ (k : ℕ). header_from k c.args.s.now c.loop-i.at c.loop-i.line) none ∙ c.loop-i.invariant.2)
+pub returns-else-feed-s : goal.returns-else-feed-s
+returns-else-feed-s c =
+    let due = turn c.args.s.now c.loop-turn._turn c.loop-turn.at c.loop-turn.line (omega arith) c.loop-turn.invariant.1 in
+    let comment = matched c.byte_at.ensures c.if-byte_at-ne99.false in
+    let none : length c.args.s.now - c.loop-turn._turn ≡ 0 = omega arith in
+    let next = head-on _ c.args.s.now c.loop-turn.at c.loop-turn.line _ c.feed_from-feed.ensures comment c.if-feed-s.false in
+    matched (head-none c.args.s.now _ _) (rw none at (matched next due))
