@@ -46,11 +46,9 @@ fn gather_next(
     ensures gathered_2 { Gathered desk.now p (from + count) sums.new }
 {
     let mut lost = base;
-    let mut i = 0;
-    while i < count {
+    for i in 0..count {
         let row = row_on(desk, from + i);
         lost = add_row(p, row, charge, lost, sums);
-        i += 1;
     }
     lost
 }
@@ -63,13 +61,12 @@ fn gather(desk: &[u64], p: Part, charge: u64, sums: &mut [u64]) -> u64
     ensures gathered_2 { Gathered desk.now p (in_use desk.now) sums.new }
 {
     let n = rules::word(desk, Desk::IN_USE) as usize;
+    let rest = n % TURN;
     let mut lost = 0;
-    let mut i = 0;
-    while n - i >= TURN {
-        lost = gather_next(desk, p, charge, i, TURN, lost, sums);
-        i += TURN;
+    for turn in 0..n / TURN {
+        lost = gather_next(desk, p, charge, TURN * turn, TURN, lost, sums);
     }
-    gather_next(desk, p, charge, i, n - i, lost, sums)
+    gather_next(desk, p, charge, n - rest, rest, lost, sums)
 }
 
 // What the variable with bit v adds: the smaller of its two sums, and nothing where it is decided.
@@ -83,11 +80,7 @@ fn smaller_at(decided: u64, v: u64, sums: &[u64]) -> u64
     let at = v as usize;
     let positive = sums[at];
     let negative = sums[NEGATIVE + at];
-    if positive < negative {
-        positive
-    } else {
-        negative
-    }
+    positive.min(negative)
 }
 
 // One pass over the variables, once the sums are gathered.
@@ -98,10 +91,8 @@ fn foreseen(desk: &[u64], p: Part, sums: &[u64]) -> u64
 {
     let n = rules::word(desk, Desk::VARIABLES);
     let mut sum = 0;
-    let mut v = 0;
-    while v < n {
+    for v in 0..n {
         sum += smaller_at(p.decided, v, sums);
-        v += 1;
     }
     sum
 }

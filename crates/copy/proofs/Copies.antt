@@ -47,10 +47,12 @@ pub copies : (input out : List ℕ) → Copied input (copy_length input out) (co
 unfolding copy_length copy_out
 copies input out = go (text_read most_rows input (row_words * most_rows)) refl
   where
-    go : (x : Result TextRead Refusal) → text_read most_rows input (row_words * most_rows) ≡ x → Copied input (length_by (read_words input) out x) (out_by (read_words input) out x)
+    go : (x : Result TextRead Refusal) → text_read most_rows input (row_words * most_rows) ≡ x
+        → Copied input (length_by (read_words input) out x) (out_by (read_words input) out x)
     go (Ok said) e =
-        subst (λ s. Copied s (length_of (written said.variables said.budget (read_words input) out)) (write_out said.variables said.budget (read_words input) out))
-        (sym (converse most_rows input (row_words * most_rows) said.variables said.budget said.rows e)) (at_front said.variables said.budget (read_words input) out)
+        let table = read_words input in
+        subst (λ s. Copied s (length_of (written said.variables said.budget table out)) (write_out said.variables said.budget table out))
+        (sym (converse most_rows input (row_words * most_rows) said.variables said.budget said.rows e)) (at_front said.variables said.budget table out)
     go (Err r) e = nothing input out
 
 -- the same of what a call gives and leaves

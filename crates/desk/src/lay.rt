@@ -80,9 +80,5 @@ fn copy(table: &[u64], desk: &mut [u64], at: usize)
     requires { at + length table.now ≤ length desk.old }
     ensures { desk.new ≡ sets desk.old at table.now }
 {
-    let mut i = 0;
-    while i < table.len() {
-        desk[at + i] = table[i];
-        i += 1;
-    }
+    desk[at..at + table.len()].copy_from_slice(table);
 }

@@ -76,15 +76,10 @@ fn all_open(desk: &[u64], named: &[u64]) -> bool
         decided: desk[Desk::DECIDED],
         truths: desk[Desk::TRUTHS],
     };
-    let mut i = 0;
-    while i < named.len() {
-        let row = row_on(desk, named[i] as usize);
-        if is_hard(row) | ((row.weight == 0) | satisfied(p, row.lits)) {
-            return false;
-        }
-        i += 1;
-    }
-    true
+    named.iter().all(|i| {
+        let row = row_on(desk, *i as usize);
+        !(is_hard(row) | ((row.weight == 0) | satisfied(p, row.lits)))
+    })
 }
 
 // The remnants fit the kind.

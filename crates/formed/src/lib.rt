@@ -59,15 +59,10 @@ fn rows_sound(desk: &[u64], variables: u64, n: usize) -> bool
     requires { head_words + row_words * n ≤ length desk.now }
     ensures { result ≡ every n (λ i. not (bad_lits variables (row_on desk.now i).lits || bad_mark (row_on desk.now i))) }
 {
-    let mut i = 0;
-    while i < n {
+    (0..n).all(|i| {
         let row = row_on(desk, i);
-        if bad_lits(variables, row.lits) | bad_mark(row) {
-            return false;
-        }
-        i += 1;
-    }
-    true
+        !(bad_lits(variables, row.lits) | bad_mark(row))
+    })
 }
 
 // (e) The true mask lies in the decided mask, and that within the variables.

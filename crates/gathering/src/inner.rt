@@ -1,5 +1,5 @@
 // The group of a conflict, on a desk and with a trail that the caller has judged: desk, trail and working weights are only read until the cost is taken.
-ghost use Rattle.std.specs.Prelude.{◌≡◌, ◌+◌, ◌-◌, ◌≤◌, min, length};
+ghost use Rattle.std.specs.Prelude.{◌≡◌, ◌+◌, ◌-◌, ◌≤◌, length};
 ghost use Rattle.rules.specs.Groups.{joined, group_of};
 ghost use Rattle.group_laws.specs.Trails.{weights_in};
 ghost use Rattle.looking.specs.Looks.{lits_on, hunt_of, Lent};
@@ -15,12 +15,6 @@ use words::inner::row_on;
 
 // Room for the rows of a group: one for each entry, and the conflict row.
 pub const ROWS: usize = Literal::MOST as usize + 1;
-
-fn smaller(a: u64, b: u64) -> u64
-    ensures { result ≡ min a b }
-{
-    if a < b { a } else { b }
-}
 
 // An entry whose variable is needed joins with its row, and the variables of that row's remnant at the node are needed too.
 fn join(
@@ -44,7 +38,7 @@ fn join(
     let there = row_on(desk, i);
     let rest = remnant(p, there.lits);
     let needed = g.needed | (rest.positive | rest.negative);
-    let cost = smaller(weights[i], g.cost);
+    let cost = weights[i].min(g.cost);
     let n = g.size;
     group[n] = row;
     let size = n + 1;
@@ -79,9 +73,7 @@ pub fn gather(
         cost,
         size: 1,
     };
-    let mut k = t.entries;
-    while k > 0 {
-        k -= 1;
+    for k in (0..t.entries).rev() {
         let variable = masks[k];
         let row = rows[k];
         g = join(desk, p, weights, variable, row, g, group);
@@ -89,23 +81,13 @@ pub fn gather(
     g
 }
 
-// What is left of a weight, or nothing.
-fn less(w: u64, cost: u64) -> u64
-    ensures { result ≡ w - cost }
-{
-    if cost < w { w - cost } else { 0 }
-}
-
 // The cost is taken from the working weight of each row of the group.
 pub fn take(group: &[u64], size: usize, cost: u64, weights: &mut [u64])
     requires { Standing size group.now weights.old }
     ensures { Taken cost size group.now weights.old weights.new }
 {
-    let mut k = 0;
-    while k < size {
-        let i = group[k] as usize;
-        let left = less(weights[i], cost);
-        weights[i] = left;
-        k += 1;
+    for row in &group[..size] {
+        let i = *row as usize;
+        weights[i] = weights[i].saturating_sub(cost);
     }
 }

@@ -65,8 +65,7 @@ fn hunts_up_to(
 {
     let n = rules::word(desk, Desk::IN_USE);
     let mut sum = start;
-    let mut k = 0;
-    while k < n {
+    for _ in 0..n {
         if sum >= best {
             return sum;
         }
@@ -75,7 +74,6 @@ fn hunts_up_to(
             return sum;
         }
         sum += cost;
-        k += 1;
     }
     sum
 }

@@ -26,13 +26,11 @@ fn first_scan(desk: &[u64], p: Part, weights: &[u64], masks: &mut [u64], rows: &
         found: 0,
         conflict: 0,
     };
-    let mut i = 0;
-    while i < n {
+    for i in 0..n {
         t = first_step(desk, p, i, weights, t, masks, rows);
         if t.found != 0 {
             return t;
         }
-        i += 1;
     }
     t
 }
@@ -56,13 +54,11 @@ fn literal_scan(
 {
     let in_use = rules::word(desk, Desk::IN_USE) as usize;
     let mut t = start;
-    let mut i = 0;
-    while i < in_use {
+    for i in 0..in_use {
         t = entry_step(desk, bit, positive, i, weights, t, masks, rows);
         if t.found != 0 {
             return t;
         }
-        i += 1;
     }
     t
 }
@@ -120,13 +116,11 @@ pub fn hunt(desk: &[u64], p: Part, weights: &[u64], masks: &mut [u64], rows: &mu
 {
     let n = rules::word(desk, Desk::VARIABLES) as usize;
     let mut t = first_scan(desk, p, weights, masks, rows);
-    let mut k = 0;
-    while k < n {
+    for k in 0..n {
         if (t.found != 0) | (t.entries <= k) {
             return t;
         }
         t = entry_scan(desk, k, weights, t, masks, rows);
-        k += 1;
     }
     t
 }

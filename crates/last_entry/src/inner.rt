@@ -122,14 +122,9 @@ fn none_hard(desk: &[u64], n: usize, first: u64) -> bool
     ensures { result ≡ soft_named desk.now n }
 {
     let rows = last_rows(desk);
-    let mut i = 0;
-    while i < n {
-        if is_hard(row_on(desk, rows[i] as usize)) {
-            return false;
-        }
-        i += 1;
-    }
-    true
+    rows[..n]
+        .iter()
+        .all(|row| !is_hard(row_on(desk, *row as usize)))
 }
 
 // Conceded and the weights, with w back on each named row, come to more than the limit.

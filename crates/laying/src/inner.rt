@@ -76,12 +76,10 @@ fn lay_back(desk: &mut [u64], named: &[u64], k: usize, first: usize, w: u64)
     ensures { desk.new ≡ laid desk.old first w (compensating (remnant_of desk.old named.now) k) }
 {
     let mut lit = remnant_of(desk, named, 0);
-    let mut i = 0;
-    while i < k {
+    for i in 0..k {
         let next = remnant_of(desk, named, i + 1).less(lit.negated());
         set_row(desk, first + i, Row::new(lit.together(next.negated()), w));
         lit = next;
-        i += 1;
     }
 }
 
@@ -121,10 +119,6 @@ pub fn rewriting_entry(kind: u64, w: u64, named: &[u64], first: u64) -> [u64; En
         0,
         first,
     ];
-    let mut i = 0;
-    while i < named.len() {
-        entry[Entry::ROWS + i] = named[i];
-        i += 1;
-    }
+    entry[Entry::ROWS..Entry::ROWS + named.len()].copy_from_slice(named);
     entry
 }

@@ -107,7 +107,8 @@ module _ (k : ℕ) (s : List ℕ) (at last : ℕ) (lits : Lits) (from : ℕ) (mo
       → one ≡ lits_of l.value → all ≡ together lits one → v ≡ size l.value → lits_from (suc k) s at last lits ≡ lits_from k s next v all
   lits-grown l next one all v e is adds sized = go (literal_at s from last) refl e
     where
-      go : (r : Option (Bool × ℕ × ℕ)) → literal_at s from last ≡ r → literal_read r ≡ Some (l, next) → lits_from (suc k) s at last lits ≡ lits_from k s next v all
+      go : (r : Option (Bool × ℕ × ℕ)) → literal_at s from last ≡ r → literal_read r ≡ Some (l, next)
+          → lits_from (suc k) s at last lits ≡ lits_from k s next v all
       go None h q = impossible (cc)
       go (Some (p, w, place)) h q =
           let same = some-pair q in

@@ -6,13 +6,13 @@ ghost use Rattle.std.specs.Prelude.{◌≡◌};
 ghost use Rattle.literals.specs.Literal.{size, is_positive, is_literal, opposite, bit_of, lits_of, offered};
 ghost use Rattle.literals.specs.Lits.{no_lits, negated_lits, together, less, variables_of, is_empty, same_lits, is_one};
 
-#[derive(Clone, Copy)]
+#[derive(Clone, Copy, Debug, PartialEq, Eq)]
 pub struct Literal {
     pub value: i64,
 }
 
 // A set of literals. Bit v - 1 of a mask stands for variable v.
-#[derive(Clone, Copy)]
+#[derive(Clone, Copy, Debug, PartialEq, Eq)]
 pub struct Lits {
     pub positive: u64,
     pub negative: u64,
@@ -41,18 +41,11 @@ impl Literal {
         (1 <= n) & (n <= Literal::MOST)
     }
 
-    // The variable. The sign is turned one step nearer to 0, so that the least number of the type has a size too.
+    // The variable. The least number of the type, which has no opposite there, has a size too.
     pub fn size(self) -> u64
         ensures { result ≡ size self.value }
     {
-        let v = self.value;
-        if 0 <= v {
-            v as u64
-        } else {
-            let m = v + 1;
-            let n = -m;
-            n as u64 + 1
-        }
+        self.value.unsigned_abs()
     }
 
     pub fn is_positive(self) -> bool
@@ -161,7 +154,7 @@ impl Lits {
     pub fn is_same(self, other: Lits) -> bool
         ensures { result ≡ same_lits self other }
     {
-        (self.positive == other.positive) & (self.negative == other.negative)
+        self == other
     }
 
     // Whether it holds just one literal.

@@ -1,6 +1,7 @@
 -- Tests and choices: the cases of a test and of two numbers, the parts of a conjunction, identities of tests, and `cond`, which chooses.
 -- Each law goes by the cases of its tests. Where a statement computes by a test, the test is an explicit argument.
-use Rattle.std.specs.Prelude.{Option, Some, None, Result, Ok, Err}
+use Rattle.std.specs.Prelude.{Option, Some, None, Result, Ok, Err, IsErrAnd, ok_or}
+use Rattle.std.proofs.lemmas.Result.{err_from_is_err_and}
 use mathlib.Core.Path.{◌≡◌, refl, sym, ap, ◌∙◌}
 use mathlib.Core.Logic.{◌⊎◌, inl, inr, ⊎_elim}
 use mathlib.Core.Bool.{Bool, true, false, not, cond, ◌&&◌, ◌||◌, beq, true≢false}
@@ -160,13 +161,28 @@ pub some-pair : {A B : Type 0} {a c : A} {b d : B} → ◌≡◌ {A = Option (A 
 some-pair {A} {B} {a} {c} {b} {d} e =
     let p : ◌≡◌ {A = A × B} (a, b) (c, d) = some-same e in (ap (λ (x : A × B). x.0) p, ap (λ (x : A × B). x.1) p)
 
-abbrev ok_or : {A E : Type 0} → A → Result A E → A
-ok_or a (Ok b) = b
-ok_or a (Err r) = a
+abbrev ok_part : {A E : Type 0} → A → Result A E → A
+ok_part a (Ok b) = b
+ok_part a (Err r) = a
 
 pub ok-same : {A E : Type 0} {a b : A} → ◌≡◌ {A = Result A E} (Ok a) (Ok b) → a ≡ b
-ok-same {A} {E} {a} e = ap (ok_or a) e
+ok-same {A} {E} {a} e = ap (ok_part a) e
 
 pub ok-pair : {A B E : Type 0} {a c : A} {b d : B} → ◌≡◌ {A = Result (A × B) E} (Ok (a, b)) (Ok (c, d)) → (a ≡ c) × (b ≡ d)
 ok-pair {A} {B} {E} {a} {c} {b} {d} e =
     let p : ◌≡◌ {A = A × B} (a, b) (c, d) = ok-same e in (ap (λ (x : A × B). x.0) p, ap (λ (x : A × B). x.1) p)
+
+-- ---- what a `?` hands on is the refusal that came
+
+pub handed-on : {T E : Type 0} (r : Result T E) (e : E) → IsErrAnd r (λ x. x ≡ e) → r ≡ Err e
+handed-on r e is = let p = err_from_is_err_and r is in p.1 ∙ ap Err p.2
+
+-- what an `ok_or` comes to says what it was asked of
+
+pub some-of-ok : {T E : Type 0} (o : Option T) (e : E) (r : Result T E) (x : T) → r ≡ ok_or o e → r ≡ Ok x → o ≡ Some x
+some-of-ok {T} {E} (Some y) e r x is was = ap Some (ok-same {E = E} (sym is ∙ was))
+some-of-ok {T} {E} None e r x is was = let f : ◌≡◌ {A = Result T E} (Err e) (Ok x) = sym is ∙ was in impossible (cc)
+
+pub none-of-err : {T E : Type 0} (o : Option T) (e : E) (r : Result T E) (d : E) → r ≡ ok_or o e → r ≡ Err d → (o ≡ None) × (d ≡ e)
+none-of-err {T} {E} (Some y) e r d is was = let f : ◌≡◌ {A = Result T E} (Ok y) (Err d) = sym is ∙ was in impossible (cc)
+none-of-err {T} {E} None e r d is was = let f : ◌≡◌ {A = Result T E} (Err e) (Err d) = sym is ∙ was in (refl, (cc))

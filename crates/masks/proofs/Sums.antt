@@ -6,10 +6,16 @@ use mathlib.Core.Path.{◌≡◌, refl, sym, ap, ap₂, ◌∙◌, subst}
 use mathlib.Core.Logic.{◌↔◌, ⊎_elim}
 use mathlib.Core.Bool.{Bool, true, false, ◌&&◌, true≢false}
 use native.Mathlib.Nat.{le_refl, le_step, le_of_lt, le_of_suc-le-suc, eq-or-lt_of_le, eq-zero-or-pos, not-suc-le-zero, add-zero, add-suc}
-use native.Mathlib.Nat.{add-sub_of_le, mul-zero, mul-add, min-le_right, min-eq_left, min-eq_right, le-min}
+use native.Mathlib.Nat.{zero-add, add-sub_of_le, mul-zero, mul-add, min-le_right, min-eq_left, min-eq_right, le-min}
 use native.Mathlib.Numerals.{add-one}
 use native.Mathlib.Omega.{arith}
 use lib.Arith.{le-zero}
+use mathlib.Core.List.{List}
+use lib.ListN.{length, get_or}
+use Rattle.std.proofs.lemmas.List.Sums.{sum_by-cons}
+use Rattle.std.specs.Bool.{MatchBool}
+use Rattle.std.proofs.lemmas.List.FromFn.{length-range_with_len, get_or-range_with_len}
+use Rattle.std.specs.List.{AllWithin, HoldsAt, range_with_len, sum_by}
 use Rattle.masks.specs.Sums.{sum, every, smallest}
 use Rattle.masks.proofs.Choice.{cases, lt-or-le, not_so, clash, and_left, and_right, and-swap}
 
@@ -138,6 +144,15 @@ sum_lt (suc n) {f} {g} i l h s =
     (λ m. omega (arith, sum_lt n {f = f} {g = g} i m (downwards h) s, h n (le_refl (suc n))))
     (eq-or-lt_of_le (le_of_suc-le-suc l))
 
+-- what `sum` says of a number for each index below a count
+pub sum-from_range : (a n : ℕ) (f : ℕ → ℕ) → sum_by f (range_with_len a n) ≡ sum n (λ i. f (a + i))
+unfolding sum
+sum-from_range a zero f = refl
+sum-from_range a (suc n) f =
+    let first : f (a + 0) ≡ f a = ap f (add-zero a) in
+    let rest : sum n (λ i. f (a + 1 + i)) ≡ sum n (λ i. f (a + suc i)) = sum-ext n (λ i l. ap f (omega arith)) in
+    omega (arith, sum_by-cons f a (range_with_len (a + 1) n), sum-from_range (a + 1) n f, sum-front n (λ i. f (a + i)), first, rest)
+
 -- ---- tests
 
 pub every-empty : (p : ℕ → Bool) → every 0 p ≡ true
@@ -188,6 +203,27 @@ pub every-and : (n : ℕ) (p q : ℕ → Bool) → every n (λ i. p i && q i) �
 unfolding every
 every-and zero p q = refl
 every-and (suc n) p q = rw (every-and n p q) (and-swap (every n p) (every n q) (p n) (q n))
+
+-- what `all` says of the elements of a list, read by their indices
+pub every-from_all : (r : Bool) (xs : List ℕ) (p : ℕ → Bool)
+    → MatchBool r (AllWithin (λ x. p x ≡ true) xs 0 (length xs)) ((k : ℕ) × (k < length xs) × HoldsAt (λ x. p x ≡ false) xs k)
+    → r ≡ every (length xs) (λ i. p (get_or xs i 0))
+every-from_all true xs p h = sym (every_true (length xs) (λ i l. h i 0 (omega arith) l))
+every-from_all false xs p h = sym (every-false (length xs) (λ i. p (get_or xs i 0)) h.0 h.1 (h.2 0))
+
+count_at : (n i : ℕ) → i < n → get_or (range_with_len 0 n) i 0 ≡ i
+count_at n i l = get_or-range_with_len 0 n i 0 l ∙ zero-add i
+
+-- what `all` says of the numbers below a count
+pub every-from_range : (r : Bool) (n : ℕ) (p : ℕ → Bool)
+    → MatchBool r (AllWithin (λ x. p x ≡ true) (range_with_len 0 n) 0 (length (range_with_len 0 n)))
+        ((k : ℕ) × (k < length (range_with_len 0 n)) × HoldsAt (λ x. p x ≡ false) (range_with_len 0 n) k)
+    → r ≡ every n p
+every-from_range true n p h =
+    sym (every_true n (λ i l. ap p (sym (count_at n i l)) ∙ h i 0 (omega arith) (rw length-range_with_len l)))
+every-from_range false n p h =
+    let l : h.0 < n = omega (arith, h.1, length-range_with_len 0 n) in
+    sym (every-false n p h.0 l (ap p (sym (count_at n h.0 l)) ∙ h.2 0))
 
 -- ---- the smallest
 

@@ -15,6 +15,7 @@ use lib.ListN.{get_or-eq_default}
 use lib.Seq.{sets, sets-eq, length-sets, set_out, set-set, set_comm, get_or-set_same, get_or-set_other, take-set-le, drop-set-lt, take-append_seam}
 use lib.Seq.{drop_at, drop-drop, length-take-le, take-suc}
 use borrow.Author.Tests.{eqb-true, eqb-false}
+use borrow.Rule.Slice.PartMut.{mid_of, put_mid}
 use Rattle.masks.specs.Words.{zeroed}
 use Rattle.masks.proofs.Choice.{cases, lt-or-le}
 
@@ -108,6 +109,12 @@ module _ {A : Type 0} where
       ∙ rw (e, ← drop-drop n i d, append_assoc (take i d) (take n (drop i d)) (drop n (drop i d)), take-append-drop n (drop i d))
       (take-append-drop i d)
 
+  -- words put in the place of as many, as a part of a slice that was written comes back, are a run of stores
+  pub put_mid-sets : (d vs : List A) (at n : ℕ) → length vs ≡ n → at + n ≤ length d → put_mid at (at + n - at) d vs ≡ sets d at vs
+  put_mid-sets d vs at n e h =
+      let k : at + n - at ≡ n = omega arith in
+      rw (k, sets-eq vs d at (rw e h), e, append_assoc (take at d) vs (drop (at + n) d)) (ap (λ (l : List A). take at d ++ (vs ++ l)) (drop-drop n at d))
+
   -- of two runs of one length at one place, the last stays
   pub sets-sets : (d : List A) (i : ℕ) (xs ys : List A) → length xs ≡ length ys → sets (sets d i xs) i ys ≡ sets d i ys
   sets-sets d i [] [] e = refl
@@ -147,6 +154,13 @@ zeroed-sets d at (suc n) =
     ∙ ap (λ (k : ℕ). set (sets d at (replicate n 0)) k 0) (sym e)
     ∙ sets-append d at (replicate n 0) (0 ∷ [])
     ∙ ap (sets d at) (replicate-append-replicate n 1 0 ∙ ap (λ (k : ℕ). replicate k 0) (add-one n))
+
+-- a part of a slice that was filled with 0
+pub put_mid-zeroed : (d vs : List ℕ) (at n : ℕ) → vs ≡ replicate (length (mid_of at (at + n - at) d)) 0 → at + n ≤ length d
+    → put_mid at (at + n - at) d vs ≡ zeroed d at n
+put_mid-zeroed d vs at n e h =
+    let m : length (mid_of at (at + n - at) d) ≡ n = length-take-le (at + n - at) (drop at d) (simp length-drop (omega arith)) ∙ omega arith in
+    rw (e, m, zeroed-sets d at n) (put_mid-sets d (replicate n 0) at n (length-replicate n 0) h)
 
 pub length-zeroed : (d : List ℕ) (at n : ℕ) → length (zeroed d at n) ≡ length d
 length-zeroed d at n = rw zeroed-sets (length-sets d at (replicate n 0))

@@ -9,12 +9,10 @@ pub fn reweigh(desk: &mut [u64], named: &[u64], w: u64, regain: bool)
     requires { Reweighable desk.old named.now w regain }
     ensures { desk.new ≡ named_reweighed desk.old named.now w regain }
 {
-    let mut i = 0;
-    while i < named.len() {
-        let row = named[i] as usize;
+    for row in named {
+        let row = *row as usize;
         let weight = row_on(desk, row).weight;
         set_weight(desk, row, changed(weight, w, regain));
-        i += 1;
     }
 }
 

@@ -7,32 +7,17 @@ ghost use Rattle.rules.specs.Steps.{distinct};
 pub fn all_below(named: &[u64], limit: u64) -> bool
     ensures { result ≡ every (length named.now) (λ i. ltb (get_or named.now i 0) limit) }
 {
-    let mut i = 0;
-    while i < named.len() {
-        if named[i] >= limit {
-            return false;
-        }
-        i += 1;
-    }
-    true
+    named.iter().all(|row| *row < limit)
 }
 
-// A row is named twice. The loops are left at the first repeated pair.
+// A row is named twice: one of those before it is the same.
 pub fn repeated(named: &[u64]) -> bool
     ensures { result ≡ not (distinct (length named.now) (λ i. get_or named.now i 0)) }
 {
-    let mut found = false;
-    let mut j = 0;
-    'pairs: while j < named.len() {
-        let mut i = 0;
-        while i < j {
-            if named[i] == named[j] {
-                found = true;
-                break 'pairs;
-            }
-            i += 1;
+    for (j, row) in named.iter().enumerate() {
+        if named[..j].contains(row) {
+            return true;
         }
-        j += 1;
     }
-    found
+    false
 }

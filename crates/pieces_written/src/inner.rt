@@ -25,12 +25,11 @@ pub fn put_key(out: &mut [u8], at: usize, key: &[u8]) -> usize
     requires { at + length key.now ≤ 2 ^ 32 }
     ensures { Stored out.old at key.now result out.new }
 {
-    let mut i = 0;
-    while i < key.len() {
-        put(out, at + i, key[i]);
-        i += 1;
+    let mut next = at;
+    for &b in key {
+        next = put(out, next, b);
     }
-    at + i
+    next
 }
 
 // A number's digits, at most `most`.
@@ -101,11 +100,9 @@ pub fn put_lits(out: &mut [u8], at: usize, n: u64, l: Lits) -> usize
     ensures { Stored out.old at (lits_text n l) result out.new }
 {
     let mut next = at;
-    let mut v = 0;
-    while v < n {
+    for v in 0..n {
         let first = next == at;
         next = put_literal(out, next, first, v, l);
-        v += 1;
     }
     next
 }

@@ -9,8 +9,7 @@ use Rattle.masks.proofs.Choice.{impossible}
 use Rattle.rules.specs.declared.Row.{Row}
 use Rattle.rules.specs.declared.Refusal.TheVariants.{BadText}
 use Rattle.rules.specs.Table.{row_words_of}
-use Rattle.rules.specs.Reader.{first_row_line, row_lines}
-use Rattle.rules.specs.Reader.{row_at, RowsRead, rows, broken_at, in_front, rest_why}
+use Rattle.rules.specs.Reader.{first_row_line, row_lines, row_at, RowsRead, rows, broken_at, in_front, rest_why}
 use Rattle.text_laws.proofs.Branches.{rows-broken, rows_left, left_one, left-none, left-front}
 use Rattle.reader.specs.Ends.{end_of}
 

@@ -11,8 +11,7 @@ use Rattle.rules.specs.Refusals.{Judged}
 use Rattle.rules.specs.declared.HeadRead.{HeadRead}
 use Rattle.rules.specs.declared.TextRead.{TextRead}
 use Rattle.rules.specs.Table.{row_words}
-use Rattle.rules.specs.Reader.{first_row_line, text_says, three_lines}
-use Rattle.rules.specs.Reader.{head_at, rows_at, words_of, head_why, text_read, read_table}
+use Rattle.rules.specs.Reader.{first_row_line, text_says, three_lines, head_at, rows_at, words_of, head_why, text_read, read_table}
 use Rattle.text_laws.specs.Ends.{unbroken}
 use Rattle.text_laws.proofs.Matched.{matched}
 use Rattle.text_laws.proofs.Branches.{rest-unbroken}

@@ -3,8 +3,7 @@ use Rattle.std.specs.Prelude.{ℕ, List, length, Result, Ok}
 use Rattle.std.proofs.lemmas.List.Edits.{sets}
 use Rattle.rules.specs.declared.TextRead.{TextRead}
 use Rattle.rules.specs.Refusals.{unless_refused}
-use Rattle.rules.specs.Reader.{first_row_line, three_lines}
-use Rattle.rules.specs.Reader.{rows_at, words_of, head_why, text_read_as}
+use Rattle.rules.specs.Reader.{first_row_line, three_lines, rows_at, words_of, head_why, text_read_as}
 use Rattle.rules.specs.declared.Refusal.{Refusal}
 
 unfoldable pub read_behind : ℕ → List ℕ → ℕ → ℕ → ℕ → ℕ → ℕ → Result TextRead Refusal

@@ -12,9 +12,9 @@ use rules::{HeadRead, Refusal, Row, TextRead};
 pub fn head_at(s: &[u8]) -> Result<HeadRead, u64>
     ensures { result ≡ head_at s.now }
 {
-    let (variables, next) = inner::number_line(s, 0, b"vars=").ok_or(1)?;
-    let (budget, next) = inner::number_line(s, next, b"budget=").ok_or(2)?;
-    let (rows, next) = inner::number_line(s, next, b"rows=").ok_or(3)?;
+    let (variables, next) = inner::number_line(s, 0, b"vars=").ok_or(1u64)?;
+    let (budget, next) = inner::number_line(s, next, b"budget=").ok_or(2u64)?;
+    let (rows, next) = inner::number_line(s, next, b"rows=").ok_or(3u64)?;
     Ok(HeadRead {
         variables,
         budget,

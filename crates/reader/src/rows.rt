@@ -57,13 +57,9 @@ fn rows_end(s: &[u8], from: usize, rows: u64) -> Result<usize, u64>
     ensures { result ≡ end_of (rows_at rows s.now from first_row_line) }
 {
     let mut at = from;
-    let mut i = 0;
-    let mut line = FIRST_LINE;
-    while i < rows {
-        let (_, next) = row_at(s, at, line)?;
+    for i in 0..rows {
+        let (_, next) = row_at(s, at, FIRST_LINE + LINES * i)?;
         at = next;
-        i += 1;
-        line += LINES;
     }
     Ok(at)
 }
@@ -86,13 +82,11 @@ pub fn store_rows(s: &[u8], from: usize, rows: usize, table: &mut [u64])
     ensures { table.new ≡ sets table.old 0 (words_of (rows_at rows s.now from first_row_line)) }
 {
     let mut at = from;
-    let mut i = 0;
-    while i < rows {
+    for i in 0..rows {
         let Ok((row, next)) = row_at(s, at, FIRST_LINE) else {
             return;
         };
         words::inner::set_row_in(table, Row::WORDS * i, row);
         at = next;
-        i += 1;
     }
 }

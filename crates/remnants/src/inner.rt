@@ -64,13 +64,11 @@ pub fn follow(desk: &[u64], named: &[u64], k: usize) -> Link
 {
     let mut lit = remnant_of(desk, named, 0);
     let mut fits = lit.is_one();
-    let mut i = 0;
-    while i < k {
+    for i in 0..k {
         let r = remnant_of(desk, named, i + 1);
         let next = r.less(lit.negated());
         fits = fits & shows(r, lit.negated(), next);
         lit = next;
-        i += 1;
     }
     Link { fits, lit }
 }
@@ -112,13 +110,8 @@ pub fn lightest(desk: &[u64], named: &[u64]) -> u64
     ensures { result ≡ lightest desk.now named.now }
 {
     let mut least = row_on(desk, named[0] as usize).weight;
-    let mut i = 1;
-    while i < named.len() {
-        let w = row_on(desk, named[i] as usize).weight;
-        if w < least {
-            least = w;
-        }
-        i += 1;
+    for row in &named[1..] {
+        least = least.min(row_on(desk, *row as usize).weight);
     }
     least
 }

@@ -17,14 +17,12 @@ pub fn sum_over(words: &[u64], from: usize, n: usize, start: u64) -> bool
         return true;
     }
     let mut left = Row::MOST_WEIGHT - start;
-    let mut i = 0;
-    while i < n {
+    for i in 0..n {
         let row = row_in(words, from + Row::WORDS * i);
         if row.weight > left {
             return true;
         }
         left -= row.weight;
-        i += 1;
     }
     false
 }

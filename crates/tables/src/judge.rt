@@ -46,10 +46,8 @@ fn rows_why(variables: u64, table: &[u64], n: usize) -> Result<(), Refusal>
     requires { row_words * n ≤ length table.now }
     ensures { result ≡ rows_why variables table.now n }
 {
-    let mut i = 0;
-    while i < n {
+    for i in 0..n {
         row_why(variables, i as u64, row_in(table, Row::WORDS * i))?;
-        i += 1;
     }
     Ok(())
 }

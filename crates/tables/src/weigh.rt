@@ -36,13 +36,9 @@ fn given_up(table: &[u64], n: usize, reading: u64) -> u64
     requires i_bound { sum n (λ i. (row_of table.now i).weight) ≤ most_weight }
     ensures { result ≡ sum n (λ i. given_up (row_of table.now i) reading) }
 {
-    let mut weight = 0;
-    let mut i = 0;
-    while i < n {
-        weight += values::given_up(row_in(table, Row::WORDS * i), reading);
-        i += 1;
-    }
-    weight
+    (0..n)
+        .map(|i| values::given_up(row_in(table, Row::WORDS * i), reading))
+        .sum()
 }
 
 // The reading breaks none of the first n rows that is hard.
@@ -50,12 +46,5 @@ fn hard_hold(table: &[u64], n: usize, reading: u64) -> bool
     requires { row_words * n ≤ length table.now }
     ensures { result ≡ every n (λ i. not (breaks (row_of table.now i) reading)) }
 {
-    let mut i = 0;
-    while i < n {
-        if breaks(row_in(table, Row::WORDS * i), reading) {
-            return false;
-        }
-        i += 1;
-    }
-    true
+    (0..n).all(|i| !breaks(row_in(table, Row::WORDS * i), reading))
 }

@@ -13,8 +13,7 @@ pub mod inner;
 pub fn weighed_words(weight: u64, hold: bool) -> [u64; 2]
     ensures { result ≡ weight ∷ hold_word hold ∷ [] }
 {
-    let holds = if hold { 1 } else { 0 };
-    [weight, holds]
+    [weight, hold as u64]
 }
 
 // Status, how many readings are kept, weight, reading, nodes.

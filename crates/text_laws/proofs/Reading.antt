@@ -14,9 +14,8 @@ use Rattle.literals.specs.Literal.{most_variables}
 use Rattle.rules.specs.declared.Refusal.{Refusal}
 use Rattle.rules.specs.declared.Refusal.TheVariants.{TooManyVariables, BadTable, NoRoom, BadBudget, BadText}
 use Rattle.rules.specs.Reader.{row_at, RowsRead, rows, broken_at, on_row, in_front, rows_at, head_at, rest_why, head_why, text_says, three_lines}
-use Rattle.rules.specs.Reader.{read_why, words_of, read_words, read_step, read_table, text_read}
+use Rattle.rules.specs.Reader.{read_why, words_of, read_words, read_step, read_table, text_read, first_row_line, row_lines}
 use Rattle.rules.specs.Table.{row_words_of, row_words}
-use Rattle.rules.specs.Reader.{first_row_line, row_lines}
 use Rattle.rules.specs.Walk.{most_budget}
 use Rattle.rules.proofs.Judging.{refuse-fine}
 use Rattle.rules.specs.declared.Row.{Row}

@@ -13,13 +13,11 @@ use lib.ListN.{length}
 use Rattle.masks.proofs.Bits.{below-lt}
 use Rattle.literals.specs.Literal.{most_variables}
 use Rattle.rules.specs.declared.Row.{Row}
-use Rattle.rules.proofs.Judging.{is_fine}
+use Rattle.rules.proofs.Judging.{is_fine, is-fine}
 use Rattle.rules.specs.Walk.{most_budget}
 use Rattle.rules.specs.Table.{row_count, row_of, table_why, row_words, most_rows}
 use Rattle.rules.specs.Text.{rows_text, table_text}
-use Rattle.rules.specs.Reader.{first_row_line, text_says, three_lines}
-use Rattle.rules.specs.Reader.{stands, head_at, rows, rows_at, rest_why, head_why, read_why, read_words, text_read}
-use Rattle.rules.proofs.Judging.{is-fine}
+use Rattle.rules.specs.Reader.{first_row_line, text_says, three_lines, stands, head_at, rows, rows_at, rest_why, head_why, read_why, read_words, text_read}
 use Rattle.rules.proofs.Admissible.{RowFine, table-fine}
 use Rattle.text_laws.specs.Lines.{RowHeld, Held}
 use Rattle.text_laws.proofs.Stands.{stands_self}

@@ -14,11 +14,9 @@ fn weight_on(desk: &[u64]) -> u64
 {
     let n = rules::word(desk, Desk::IN_USE) as usize;
     let mut weight = rules::word(desk, Desk::CONCEDED);
-    let mut i = 0;
-    while i < n {
+    for i in 0..n {
         let row = row_on(desk, i);
         weight += row.weight;
-        i += 1;
     }
     weight
 }

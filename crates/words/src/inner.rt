@@ -66,11 +66,7 @@ pub fn zero(desk: &mut [u64], at: usize, n: usize)
     requires { at + n ≤ length desk.old }
     ensures { desk.new ≡ zeroed desk.old at n }
 {
-    let mut i = 0;
-    while i < n {
-        desk[at + i] = 0;
-        i += 1;
-    }
+    desk[at..at + n].fill(0);
 }
 
 // A step gets the next entry, and one more stands.
@@ -93,11 +89,7 @@ fn store(desk: &mut [u64], at: usize, entry: [u64; Entry::WORDS])
     requires { at + entry_words ≤ length desk.old }
     ensures { desk.new ≡ sets desk.old at entry }
 {
-    let mut i = 0;
-    while i < Entry::WORDS {
-        desk[at + i] = entry[i];
-        i += 1;
-    }
+    desk[at..at + Entry::WORDS].copy_from_slice(&entry);
 }
 
 // A word of the last entry.
@@ -135,11 +127,7 @@ pub fn last_rows(desk: &[u64]) -> [u64; Entry::NAMED]
     let n = desk[Desk::STANDING] as usize;
     let at = Desk::HEAD + Row::WORDS * c + Entry::WORDS * (n - 1) + Entry::ROWS;
     let mut rows = [0u64; Entry::NAMED];
-    let mut i = 0;
-    while i < Entry::NAMED {
-        rows[i] = desk[at + i];
-        i += 1;
-    }
+    rows.copy_from_slice(&desk[at..at + Entry::NAMED]);
     rows
 }
 

@@ -45,13 +45,11 @@ pub fn weigh(desk: &[u64], p: Part, charge: u64, weights: &mut [u64]) -> u64
 {
     let n = rules::word(desk, Desk::IN_USE) as usize;
     let mut lost = 0;
-    let mut i = 0;
-    while i < n {
+    for i in 0..n {
         let row = row_on(desk, i);
         let s = shares(p, charge, row);
         weights[i] = s.working;
         lost += s.lost;
-        i += 1;
     }
     lost
 }

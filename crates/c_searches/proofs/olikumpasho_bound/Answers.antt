@@ -8,21 +8,21 @@ use Rattle.c_searches.proofs.olikumpasho_bound.Goals as goal
 pub tell-requires : goal.tell-requires
 tell-requires c =
     let said : c.bound.result ≡ bounded c.args.desk.now (choice_of c.args.choice) = c.bound.ensures ∙ ap (bounded c.args.desk.now) c.choice_of.ensures in
-    as-small (sym (ap by_bounded (sym said ∙ c.in-Refused.is))) (bounded-small _ _)
+    as-small (sym (ap by_bounded (sym said ∙ c.in-Err.is))) (bounded-small _ _)
 
-pub returns-in-Refused : goal.returns-in-Refused
-returns-in-Refused c =
+pub returns-in-Err : goal.returns-in-Err
+returns-in-Err c =
     let said : c.bound.result ≡ bounded c.args.desk.now (choice_of c.args.choice) = c.bound.ensures ∙ ap (bounded c.args.desk.now) c.choice_of.ensures in
-    let e = sym said ∙ c.in-Refused.is in
+    let e = sym said ∙ c.in-Err.is in
     record {
       answer = c.tell.ensures ∙ sym (ap (λ x. told (by_bounded x)) e);
       lent = sym (ap (λ x. bound_out x c.args.losses.now) e);
     }
 
-pub returns-in-Bound : goal.returns-in-Bound
-returns-in-Bound c =
+pub returns-in-Ok : goal.returns-in-Ok
+returns-in-Ok c =
     let said : c.bound.result ≡ bounded c.args.desk.now (choice_of c.args.choice) = c.bound.ensures ∙ ap (bounded c.args.desk.now) c.choice_of.ensures in
-    let e = sym said ∙ c.in-Bound.is in
+    let e = sym said ∙ c.in-Ok.is in
     record {
       answer = sym (ap (λ x. told (by_bounded x)) e);
       lent = sym (ap (λ x. bound_out x c.args.losses.now) e);

@@ -10,21 +10,21 @@ use Rattle.c_searches.proofs.olikumpasho_search.Goals as goal
 pub tell-requires : goal.tell-requires
 tell-requires c =
     let said : c.search.result ≡ searched c.args.desk.now (choice_of c.args.choice) c.args.budget = c.search.ensures ∙ ap (λ (x : Choice). searched c.args.desk.now x c.args.budget) c.choice_of.ensures in
-    as-small (sym (ap by_searched (sym said ∙ c.in-Refused.is))) (searched-small _ _ _)
+    as-small (sym (ap by_searched (sym said ∙ c.in-Err.is))) (searched-small _ _ _)
 
-pub returns-in-Refused : goal.returns-in-Refused
-returns-in-Refused c =
+pub returns-in-Err : goal.returns-in-Err
+returns-in-Err c =
     let said : c.search.result ≡ searched c.args.desk.now (choice_of c.args.choice) c.args.budget = c.search.ensures ∙ ap (λ (x : Choice). searched c.args.desk.now x c.args.budget) c.choice_of.ensures in
-    let e = sym said ∙ c.in-Refused.is in
+    let e = sym said ∙ c.in-Err.is in
     record {
       answer = c.tell.ensures ∙ sym (ap (λ x. told (by_searched x)) e);
       lent = sym (ap (λ x. found_out x c.args.found.now) e);
     }
 
-pub returns-in-Found : goal.returns-in-Found
-returns-in-Found c =
+pub returns-in-Ok : goal.returns-in-Ok
+returns-in-Ok c =
     let said : c.search.result ≡ searched c.args.desk.now (choice_of c.args.choice) c.args.budget = c.search.ensures ∙ ap (λ (x : Choice). searched c.args.desk.now x c.args.budget) c.choice_of.ensures in
-    let e = sym said ∙ c.in-Found.is in
+    let e = sym said ∙ c.in-Ok.is in
     record {
       answer = sym (ap (λ x. told (by_searched x)) e);
       lent = c.found_words.ensures ∙ sym (ap (λ x. found_out x c.args.found.now) e);

@@ -6,20 +6,20 @@ use native.Mathlib.Omega.{arith}
 use Rattle.c_texts.proofs.olikumpasho_read.Goals as goal
 
 pub tell-requires : goal.tell-requires
-tell-requires c = as-small (sym (ap by_text_read (sym c.read.ensures.answer ∙ c.in-Refused.is))) (read_small _ _ _ (omega arith))
+tell-requires c = as-small (sym (ap by_text_read (sym c.read.ensures.answer ∙ c.in-Err.is))) (read_small _ _ _ (omega arith))
 
-pub returns-in-Refused : goal.returns-in-Refused
-returns-in-Refused c =
-    let e = sym c.read.ensures.answer ∙ c.in-Refused.is in
+pub returns-in-Err : goal.returns-in-Err
+returns-in-Err c =
+    let e = sym c.read.ensures.answer ∙ c.in-Err.is in
     record {
       answer = c.tell.ensures ∙ sym (ap (λ x. told (by_text_read x)) e);
       words = c.read.ensures.words;
       lent = sym (ap (λ x. head_out x c.args.head.now) e);
     }
 
-pub returns-in-Table : goal.returns-in-Table
-returns-in-Table c =
-    let e = sym c.read.ensures.answer ∙ c.in-Table.is in
+pub returns-in-Ok : goal.returns-in-Ok
+returns-in-Ok c =
+    let e = sym c.read.ensures.answer ∙ c.in-Ok.is in
     record {
       answer = sym (ap (λ x. told (by_text_read x)) e);
       words = c.read.ensures.words;

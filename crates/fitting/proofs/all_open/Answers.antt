@@ -1,15 +1,20 @@
-use Prim.Native.Nat.{ℕ, ◌-◌}
-use mathlib.Core.Path.{◌≡◌, refl, sym, ap, ◌∙◌, subst}
-use mathlib.Core.Bool.{Bool, true, false, not, ◌&&◌, ◌||◌}
+-- `all_open` meets its contract: `all` looks at each row named.
+use Prim.Native.Nat.{ℕ, ◌+◌, ◌*◌, ◌≤◌}
+use mathlib.Core.Path.{◌≡◌, refl, ◌∙◌}
+use mathlib.Core.List.{List}
+use mathlib.Core.Bool.{Bool, true, false, not, ◌||◌, ◌&&◌}
 use native.Mathlib.Omega.{arith}
+use borrow.Author.Tests.{tests}
 use lib.ListN.{length, get_or}
 use lib.Dec.{eqb}
-use Rattle.masks.specs.Sums.{every}
-use Rattle.masks.proofs.Sums.{every-empty, every_more, every-false}
-use Rattle.masks.proofs.Choice.{both}
-use Rattle.rules.specs.Table.{is_hard}
-use Rattle.rules.specs.Desk.{row_on, decisions, satisfied, spent}
-use Rattle.fitting.specs.Open.{is_open}
+use Rattle.std.proofs.Common.{rules}
+use Rattle.std.proofs.lemmas.Iterator.{cases_from_all, YieldsList-from_slice}
+use Rattle.std.proofs.lemmas.Iterator.Adapters.{serves_from_places}
+use Rattle.std.proofs.lemmas.List.{get_or_read}
+use Rattle.rules.specs.declared.Row.{Row}
+use Rattle.masks.proofs.Sums.{every-from_all, every-ext}
+use Rattle.rules.specs.Table.{row_words, is_hard}
+use Rattle.rules.specs.Desk.{head_words, row_on, decisions, satisfied, spent}
 use Rattle.fitting.proofs.all_open.Goals as goal
 
 -- of a row that is not hard it is the same whether spent looks at that
@@ -18,40 +23,29 @@ once-hard true w s = refl
 once-hard false true s = refl
 once-hard false false s = refl
 
+-- row i of the desk is open, as the code asks it
+abbrev open_row : List ℕ → ℕ → Bool
+open_row desk i =
+    let row = row_on desk i in
+    not (is_hard row || (eqb row.weight 0 || satisfied (decisions desk) row.lits))
+
 pub bounds-desk-5 : goal.bounds-desk-5
 bounds-desk-5 c = omega (arith, c.requires.head)
 
 pub bounds-desk-6 : goal.bounds-desk-6
 bounds-desk-6 c = omega (arith, c.requires.head)
 
-pub loop-i-init : goal.loop-i-init
-loop-i-init c = (omega arith, every-empty _)
-
-pub row_on-row-requires : goal.row_on-row-requires
-row_on-row-requires c = c.requires.inside c.loop-i.i (omega arith)
-
-pub returns-then-is_hard-row : goal.returns-then-is_hard-row
-unfolding spent decisions
-returns-then-is_hard-row c =
-    let gave : not (c.is_hard.result || (eqb c.row_on-row.result.weight 0 || c.satisfied.result)) ≡ is_open
-    c.args.desk.now
-    c.args.named.now c.loop-i.i = let row = row_on c.args.desk.now (get_or c.args.named.now c.loop-i.i 0) in
-    rw (c.satisfied.ensures, c.is_hard.ensures, c.row_on-row.ensures)
-    (once-hard (is_hard row) (eqb row.weight 0) (satisfied (decisions c.args.desk.now) row.lits)) in
-    sym (every-false (length c.args.named.now) (is_open c.args.desk.now c.args.named.now) c.loop-i.i (omega arith)
-    (sym gave ∙ ap not c.if-is_hard-row.true))
-
-pub loop-i-preserved : goal.loop-i-preserved
-unfolding spent decisions
-loop-i-preserved c =
-    let gave : not (c.is_hard.result || (eqb c.row_on-row.result.weight 0 || c.satisfied.result)) ≡ is_open
-    c.args.desk.now
-    c.args.named.now c.loop-i.i = let row = row_on c.args.desk.now (get_or c.args.named.now c.loop-i.i 0) in
-    rw (c.satisfied.ensures, c.is_hard.ensures, c.row_on-row.ensures)
-    (once-hard (is_hard row) (eqb row.weight 0) (satisfied (decisions c.args.desk.now) row.lits)) in
-    (omega arith, every_more c.loop-i.i (is_open c.args.desk.now c.args.named.now) ∙ both c.loop-i.invariant.1 (sym gave ∙ ap not c.if-is_hard-row.false))
+pub all-requires-clause-callable : goal.all-requires-clause-callable
+all-requires-clause-callable c =
+    serves_from_places (YieldsList-from_slice c.args.named.now cc) (λ x q k. search (rules, tests)) (λ x k l e.
+    let inside : head_words + row_words * (x.now + 1) ≤ length c.args.desk.now = rw (get_or_read c.args.named.now k x.now l e 0) (c.requires.inside k l) in
+    search rules)
 
 pub returns : goal.returns
+unfolding spent decisions
 returns c =
-    let e : c.loop-i.i ≡ length c.args.named.now = omega arith in
-    sym (subst (λ (k : ℕ). every k (is_open c.args.desk.now c.args.named.now) ≡ true) e c.loop-i.invariant.1)
+    let p = open_row c.args.desk.now in
+    let row : ℕ → Row = λ i. row_on c.args.desk.now (get_or c.args.named.now i 0) in
+    every-from_all c.all.result c.args.named.now p
+    (cases_from_all _ _ _ (λ i. p i ≡ true) (λ i. p i ≡ false) c.all.ensures.ran (YieldsList-from_slice c.args.named.now cc) (λ x q k. search (rules, tests)) (λ x q k. search (rules, tests)))
+    ∙ every-ext (length c.args.named.now) (λ i l. once-hard (is_hard (row i)) (eqb (row i).weight 0) (satisfied (decisions c.args.desk.now) (row i).lits))

@@ -12,7 +12,9 @@ front a k n xs ys within fits =
     let after = post_of a k xs in
     let before = take a xs in
     let long : length before ≡ a = length-take-le a xs within in
-    ap (λ m. take (m + n) (before ++ (ys ++ after))) (sym long) ∙ take-append-add before (ys ++ after) n ∙ ap (λ l. before ++ l) (take-append-le n ys after fits)
+    ap (λ m. take (m + n) (before ++ (ys ++ after))) (sym long)
+    ∙ take-append-add before (ys ++ after) n
+    ∙ ap (λ l. before ++ l) (take-append-le n ys after fits)
 
 pub loop-done-preserved : goal.loop-done-preserved
 loop-done-preserved g c =

@@ -11,4 +11,4 @@ returns-in_default c =
 pub returns : goal.returns
 returns c =
     let fine = never-refused c.args.input.now c.args.output.now c.requires in
-    replied _ _ fine _ c.answer_wcnf.ensures.answer _ _ c.in-Bytes.is c.answer_wcnf.ensures.bytes
+    replied _ _ fine _ c.answer_wcnf.ensures.answer _ _ c.in-Ok.is c.answer_wcnf.ensures.bytes

@@ -32,7 +32,8 @@ put_losses-requires c =
     let weight = weight-length c.args.found.best in
     let nodes = line-length nodes_key c.args.found.nodes in
     let reading = reading-length c.args.variables c.args.found.best c.requires in
-    omega (arith, c.put_reading-fifth.ensures.place, c.put_number_line-fourth.ensures.place, c.put_weight-third.ensures.place, c.put_status-second.ensures.place)
+    let two = c.put_weight-third.ensures.place in
+    omega (arith, c.put_reading-fifth.ensures.place, c.put_number_line-fourth.ensures.place, two, c.put_status-second.ensures.place)
 
 pub returns : goal.returns
 returns c =

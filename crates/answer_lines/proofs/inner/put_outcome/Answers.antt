@@ -4,10 +4,10 @@ use Rattle.readings.specs.Line.{Counted}
 use Rattle.answer_lines.proofs.inner.put_outcome.Goals as goal
 
 pub put_found-requires : goal.put_found-requires
-put_found-requires c = (subst Counted c.in-Searched.is c.requires).0
+put_found-requires c = (subst Counted c.in-Ok.is c.requires).0
 
-pub returns-in-Refused : goal.returns-in-Refused
-returns-in-Refused c = rw c.in-Refused.is c.put_refusal.ensures
+pub returns-in-Err : goal.returns-in-Err
+returns-in-Err c = rw c.in-Err.is c.put_refusal.ensures
 
-pub returns-in-Searched : goal.returns-in-Searched
-returns-in-Searched c = rw c.in-Searched.is c.put_found.ensures
+pub returns-in-Ok : goal.returns-in-Ok
+returns-in-Ok c = rw c.in-Ok.is c.put_found.ensures

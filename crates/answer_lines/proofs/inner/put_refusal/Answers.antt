@@ -7,7 +7,8 @@ use Rattle.answer_lines.proofs.Written.{refusal_is}
 use Rattle.answer_lines.proofs.inner.put_refusal.Goals as goal
 
 pub put_number_line-requires : goal.put_number_line-requires
-put_number_line-requires c = omega (arith, c.put_number_line-third.ensures.place, c.put_key-second.ensures.place, line-length number_key c.numbered-told.result.0)
+put_number_line-requires c =
+    omega (arith, c.put_number_line-third.ensures.place, c.put_key-second.ensures.place, line-length number_key c.numbered-told.result.0)
 
 pub returns : goal.returns
 returns c =

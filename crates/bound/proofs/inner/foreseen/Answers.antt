@@ -1,4 +1,4 @@
-use Prim.Native.Nat.{ℕ, ◌-◌}
+use Prim.Native.Nat.{ℕ}
 use mathlib.Core.Path.{◌≡◌, sym, ◌∙◌, ap}
 use native.Mathlib.Omega.{arith}
 use Rattle.masks.specs.Sums.{sum}
@@ -10,7 +10,7 @@ use Rattle.bound.proofs.Gathering.{gathered-by}
 use Rattle.bound.proofs.inner.foreseen.Goals as goal
 
 pub loop-v-init : goal.loop-v-init
-loop-v-init c = (omega arith, sym (sum-empty _))
+loop-v-init c = sym (sum-empty _)
 
 pub smaller_at-sum-requires : goal.smaller_at-sum-requires
 smaller_at-sum-requires c = (omega (arith, c.requires.readable.bits, c.word-n.ensures), c.requires.gathered.words)
@@ -32,10 +32,10 @@ loop-v-preserved c =
     let added : c.smaller_at-sum.result ≡ adds_at c.args.desk.now c.args.p c.loop-v.v = c.smaller_at-sum.ensures
     ∙ gathered-by c.args.desk.now c.args.p c.args.sums.now c.requires.gathered c.loop-v.v
     (omega (arith, c.requires.readable.bits, c.word-n.ensures)) in
-    (omega arith, omega (arith, added, sum_more c.loop-v.v (adds_at c.args.desk.now c.args.p)))
+    omega (arith, added, sum_more c.loop-v.v (adds_at c.args.desk.now c.args.p))
 
 pub returns : goal.returns
 unfolding foreseen
 returns c =
     let e : c.loop-v.v ≡ variables c.args.desk.now = omega (arith, c.word-n.ensures) in
-    c.loop-v.invariant.1 ∙ ap (λ (k : ℕ). sum k (adds_at c.args.desk.now c.args.p)) e
+    c.loop-v.invariant ∙ ap (λ (k : ℕ). sum k (adds_at c.args.desk.now c.args.p)) e

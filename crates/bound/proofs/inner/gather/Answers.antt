@@ -1,4 +1,4 @@
-use Prim.Native.Nat.{◌+◌, ◌-◌}
+use Prim.Native.Nat.{◌+◌, ◌*◌, ◌-◌, ◌%◌}
 use mathlib.Core.Path.{◌≡◌, sym, ap, ◌∙◌}
 use native.Mathlib.Omega.{arith}
 use Rattle.masks.proofs.Sums.{sum-empty}
@@ -7,33 +7,39 @@ use Rattle.desk_laws.specs.Charged.{lost_charged}
 use Rattle.bound.proofs.Gathering.{gathered-at}
 use Rattle.bound.proofs.inner.gather.Goals as goal
 
-pub loop-i-init : goal.loop-i-init
-loop-i-init c = (omega arith, sym (sum-empty _), c.requires.gathered)
+pub loop-turn-init : goal.loop-turn-init
+loop-turn-init c = (sym (sum-empty _), c.requires.gathered)
 
 pub gather_next-lost-requires : goal.gather_next-lost-requires
 gather_next-lost-requires c =
     record {
       readable = c.requires.readable;
       count_bound = omega (arith, c.word-n.ensures);
-      base_value = c.loop-i.invariant.1;
-      gathered = c.loop-i.invariant.2;
+      base_value = c.loop-turn.invariant.0;
+      gathered = c.loop-turn.invariant.1;
     }
 
-pub loop-i-preserved : goal.loop-i-preserved
-loop-i-preserved c = (omega arith, c.gather_next-lost.ensures.value, c.gather_next-lost.ensures.gathered_2)
+pub loop-turn-preserved : goal.loop-turn-preserved
+loop-turn-preserved c =
+    let e : 4 * c.loop-turn.turn + 4 ≡ 4 * (c.loop-turn.turn + 1) = omega arith in (
+      c.gather_next-lost.ensures.value ∙ ap (lost_charged c.args.charge c.args.desk.now c.args.p) e,
+      gathered-at c.args.desk.now c.args.p e c.gather_next-lost.ensures.gathered_2,
+    )
 
 pub gather_next-requires : goal.gather_next-requires
 gather_next-requires c =
+    let e : 4 * c.loop-turn.turn ≡ c.word-n.result - c.word-n.result % 4 = omega arith in
     record {
       readable = c.requires.readable;
       count_bound = omega (arith, c.word-n.ensures);
-      base_value = c.loop-i.invariant.1;
-      gathered = c.loop-i.invariant.2;
+      base_value = c.loop-turn.invariant.0 ∙ ap (lost_charged c.args.charge c.args.desk.now c.args.p) e;
+      gathered = gathered-at c.args.desk.now c.args.p e c.loop-turn.invariant.1;
     }
 
 pub returns : goal.returns
 returns c =
-    let end = c.loop-i.i + (c.word-n.result - c.loop-i.i) in
+    let n = c.word-n.result in
+    let end = n - n % 4 + n % 4 in
     let e : end ≡ in_use c.args.desk.now = omega (arith, c.word-n.ensures) in
     let lost = lost_charged c.args.charge c.args.desk.now c.args.p in
     record {

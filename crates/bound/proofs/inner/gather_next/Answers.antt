@@ -1,4 +1,4 @@
-use Prim.Native.Nat.{ℕ, ◌+◌, ◌<◌, ◌-◌}
+use Prim.Native.Nat.{ℕ, ◌+◌, ◌<◌}
 use mathlib.Core.Path.{◌≡◌, sym, ap, ◌∙◌}
 use native.Mathlib.Nat.{add-zero}
 use native.Mathlib.Omega.{arith}
@@ -15,7 +15,6 @@ use Rattle.bound.proofs.inner.gather_next.Goals as goal
 pub loop-i-init : goal.loop-i-init
 loop-i-init c =
     let e : c.args.from ≡ c.args.from + 0 = sym (add-zero c.args.from) in (
-      omega arith,
       c.requires.base_value ∙ ap (lost_charged c.args.charge c.args.desk.now c.args.p) e,
       gathered-at c.args.desk.now c.args.p e c.requires.gathered,
     )
@@ -33,8 +32,8 @@ add_row-lost-requires c =
     let weighs : (charged_row c.args.charge c.row_on-row.result).weight ≡ (charged_row c.args.charge (row_on c.args.desk.now at)).weight =
     ap (λ (r : Row). (charged_row c.args.charge r).weight) c.row_on-row.ensures in
     record {
-      row_bound = omega (arith, c.loop-i.invariant.1, charged-fits c.args.desk.now c.args.p c.requires.readable.0 c.args.charge c.requires.readable.1 at more);
-      roomy = gathered-roomy c.args.desk.now c.args.p at c.loop-i.sums c.loop-i.invariant.2 _ c.row_on-row.ensures c.requires.readable.0 more;
+      row_bound = omega (arith, c.loop-i.invariant.0, charged-fits c.args.desk.now c.args.p c.requires.readable.0 c.args.charge c.requires.readable.1 at more);
+      roomy = gathered-roomy c.args.desk.now c.args.p at c.loop-i.sums c.loop-i.invariant.1 _ c.row_on-row.ensures c.requires.readable.0 more;
     }
 
 pub loop-i-preserved : goal.loop-i-preserved
@@ -44,20 +43,19 @@ loop-i-preserved c =
     let at : ℕ = c.args.from + c.loop-i.i in
     let e : at + 1 ≡ c.args.from + (c.loop-i.i + 1) = omega arith in
     let lost : c.add_row-lost.result ≡ lost_charged c.args.charge c.args.desk.now c.args.p (at + 1) =
-    omega (arith, c.loop-i.invariant.1, lost-more, sum_more at (λ k. weight_where is_empty c.args.p (charged_row c.args.charge (row_on c.args.desk.now k)))) in (
-      omega arith,
+    omega (arith, c.loop-i.invariant.0, lost-more, sum_more at (λ k. weight_where is_empty c.args.p (charged_row c.args.charge (row_on c.args.desk.now k)))) in (
       lost ∙ ap (lost_charged c.args.charge c.args.desk.now c.args.p) e,
       gathered-at c.args.desk.now c.args.p e
-          (gathered-more c.args.desk.now c.args.p at c.loop-i.sums c.loop-i.invariant.2 _ c.row_on-row.ensures _ c.add_row-lost.ensures.grown),
+          (gathered-more c.args.desk.now c.args.p at c.loop-i.sums c.loop-i.invariant.1 _ c.row_on-row.ensures _ c.add_row-lost.ensures.grown),
     )
 
 pub shape_of-sums : goal.shape_of-sums
-shape_of-sums c = c.loop-i.invariant.2.words ∙ sym c.requires.gathered.words
+shape_of-sums c = c.loop-i.invariant.1.words ∙ sym c.requires.gathered.words
 
 pub returns : goal.returns
 returns c =
     let e : c.args.from + c.loop-i.i ≡ c.args.from + c.args.count = omega arith in
     record {
-      value = c.loop-i.invariant.1 ∙ ap (lost_charged c.args.charge c.args.desk.now c.args.p) e;
-      gathered_2 = gathered-at c.args.desk.now c.args.p e c.loop-i.invariant.2;
+      value = c.loop-i.invariant.0 ∙ ap (lost_charged c.args.charge c.args.desk.now c.args.p) e;
+      gathered_2 = gathered-at c.args.desk.now c.args.p e c.loop-i.invariant.1;
     }

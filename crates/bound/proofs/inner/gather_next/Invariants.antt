@@ -1,5 +1,5 @@
 -- `gather_next` meets its contract: after i turns each of the sums, and what is lost, is that of the rows up to there.
-use Prim.Native.Nat.{◌+◌, ◌≤◌, ◌-◌}
+use Prim.Native.Nat.{◌+◌}
 use mathlib.Core.Path.{◌≡◌}
 use Rattle.desk_laws.specs.Charged.{lost_charged}
 use Rattle.bound.specs.Units.{Gathered}
@@ -7,7 +7,4 @@ use Rattle.bound.proofs.inner.gather_next.Given as goal
 
 abbrev pub invariant-loop-i : goal.invariant-loop-i
 invariant-loop-i l =
-    (l.i ≤ l.count) × (l.lost ≡ lost_charged l.charge l.desk l.p (l.from + l.i)) × Gathered l.desk l.p (l.from + l.i) l.sums
-
-abbrev pub decreases-loop-i : goal.decreases-loop-i
-decreases-loop-i l = l.count - l.i
+    (l.lost ≡ lost_charged l.charge l.desk l.p (l.from + l.i)) × Gathered l.desk l.p (l.from + l.i) l.sums

@@ -1,5 +1,5 @@
 -- `gather` meets its contract: what is gathered so far, and then the entries below k, is what all entries make of the conflict row.
-use Prim.Native.Nat.{◌+◌, ◌-◌, ◌≤◌}
+use Prim.Native.Nat.{◌+◌, ◌≤◌}
 use mathlib.Core.Path.{◌≡◌}
 use lib.ListN.{length, get_or}
 use Rattle.rules.specs.Groups.{gathered}
@@ -10,9 +10,6 @@ use Rattle.gathering.proofs.inner.gather.Given as goal
 
 abbrev pub invariant-loop-k : goal.invariant-loop-k
 invariant-loop-k l =
-    (l.k ≤ l.initial.k) × (l.g.size + l.k ≤ l.initial.k + 1) × (length l.group ≡ group_words)
+    (l.g.size + l.k ≤ l.fn.t.entries + 1) × (length l.group ≡ group_words)
     × (gathered (lits_on l.desk) (weights_in l.weights) l.p (trail_of (λ j. get_or l.masks j 0) (λ j. get_or l.rows j 0) l.k) (group_in l.g l.group)
-    ≡ gathered (lits_on l.desk) (weights_in l.weights) l.p (trail_of (λ j. get_or l.masks j 0) (λ j. get_or l.rows j 0) l.initial.k) (group_in l.initial.g l.initial.group))
-
-abbrev pub decreases-loop-k : goal.decreases-loop-k
-decreases-loop-k l = l.k
+    ≡ gathered (lits_on l.desk) (weights_in l.weights) l.p (trail_of (λ j. get_or l.masks j 0) (λ j. get_or l.rows j 0) l.fn.t.entries) (group_in l.initial.g l.initial.group))

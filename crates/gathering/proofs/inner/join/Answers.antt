@@ -15,6 +15,6 @@ returns c =
     record {
       group_after = needed-joins c.args.desk.now c.args.weights.now c.args.p c.args.variable c.args.row c.args.g c.args.group.now _ c.row_on-there.ensures _
           c.remnant-rest.ensures
-          c.if-variable-g-eq0.false c.requires.room _ c.smaller-cost.ensures;
+          c.if-variable-g-eq0.false c.requires.room _ c.min-cost.ensures;
       size_bound = omega arith;
     }

@@ -1,4 +1,3 @@
-use Prim.Native.Nat.{◌-◌}
 use mathlib.Core.Path.{refl, sym, ◌∙◌}
 use native.Mathlib.Omega.{arith}
 use Rattle.hunts.proofs.Scanning.{scan-none, scan-more, scan-left, scan-done, first-scan, hunt-start}

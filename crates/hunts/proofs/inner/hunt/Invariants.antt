@@ -1,5 +1,4 @@
 -- `hunt` meets its contract: after k turns it is what the first k entries have come to, from whatever partial reading it began with.
-use Prim.Native.Nat.{◌-◌}
 use mathlib.Core.Path.{◌≡◌}
 use Rattle.rules.specs.declared.Part.{Part}
 use Rattle.rules.specs.Desk.{in_use}
@@ -13,6 +12,3 @@ abbrev pub invariant-loop-k : goal.invariant-loop-k
 invariant-loop-k l =
     (p : Part) → hunt_of l.initial.t l.initial.masks l.initial.rows ≡ drained (lits_on l.desk) (weights_in l.weights) (in_use l.desk) p 0
     → Drained (lits_on l.desk) (weights_in l.weights) (in_use l.desk) p l.n l.k l.t l.masks l.rows
-
-abbrev pub decreases-loop-k : goal.decreases-loop-k
-decreases-loop-k l = l.n - l.k

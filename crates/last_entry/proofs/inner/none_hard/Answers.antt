@@ -1,13 +1,18 @@
-use Prim.Native.Nat.{ℕ, ◌+◌, ◌-◌}
-use mathlib.Core.Path.{◌≡◌, sym, ap, ◌∙◌, subst}
-use mathlib.Core.List.{List}
-use mathlib.Core.Bool.{Bool, true, not}
+-- `none_hard` meets its contract: `all` looks at each row named.
+use Prim.Native.Nat.{ℕ, ◌+◌, ◌*◌, ◌≤◌, ◌<◌}
+use mathlib.Core.Path.{◌≡◌, ap, ◌∙◌}
+use mathlib.Core.Bool.{Bool, true, false, not}
 use native.Mathlib.Omega.{arith}
-use Rattle.masks.specs.Sums.{every}
-use Rattle.masks.proofs.Sums.{every-empty, every_more, every-false}
-use Rattle.masks.proofs.Choice.{both}
-use Rattle.rules.specs.Table.{is_hard}
-use Rattle.rules.specs.Desk.{row_place, row_on}
+use borrow.Author.Tests.{tests}
+use lib.ListN.{length, take}
+use Rattle.std.proofs.Common.{rules}
+use Rattle.std.proofs.lemmas.Iterator.{cases_from_all, YieldsList-from_slice}
+use Rattle.std.proofs.lemmas.Iterator.Adapters.{serves_from_places}
+use Rattle.std.proofs.lemmas.List.{get_or_read}
+use lib.Seq.{length-take-le, get_or-take}
+use Rattle.masks.proofs.Sums.{every-from_all, every-ext}
+use Rattle.rules.specs.Table.{row_words, is_hard}
+use Rattle.rules.specs.Desk.{head_words, row_place, row_on}
 use Rattle.rules.specs.TakeBack.{last_named}
 use Rattle.desk_laws.proofs.Formed.{rows_inside}
 use Rattle.last_entry.specs.Last.{soft_named}
@@ -15,45 +20,27 @@ use Rattle.last_entry.proofs.Lasts.{step-stands, whole}
 use Rattle.last_entry.proofs.Bad.{below-first}
 use Rattle.last_entry.proofs.inner.none_hard.Goals as goal
 
--- the i-th named row is soft
-abbrev soft : List ℕ → ℕ → Bool
-soft desk i = not (is_hard (row_on desk (last_named desk i)))
-
 pub last_rows-rows-requires : goal.last_rows-rows-requires
 last_rows-rows-requires c = step-stands _ c.requires.stands
 
-pub loop-i-init : goal.loop-i-init
-loop-i-init c = (omega arith, every-empty _)
-
-pub offset_bounds-rows-i : goal.offset_bounds-rows-i
-offset_bounds-rows-i c = omega (arith, c.requires.n_le_most_named)
-
-pub bounds-rows-i : goal.bounds-rows-i
-bounds-rows-i c = omega (arith, c.requires.n_le_most_named)
-
-pub row_on-requires : goal.row_on-requires
+pub all-requires-clause-callable : goal.all-requires-clause-callable
 unfolding row_place
-row_on-requires c =
+all-requires-clause-callable c =
+    serves_from_places (YieldsList-from_slice (take c.args.n c.last_rows-rows.result) cc) (λ x q k. search (rules, tests)) (λ x k l e.
     let f = whole c.args.desk.now c.requires.stands in
-    let told = c.last_rows-rows.ensures c.loop-i.i (omega (arith, c.requires.n_le_most_named)) in
-    let under = below-first c.args.desk.now c.args.n c.args.first c.requires.first_value c.loop-i.i (omega arith) in
-    omega (arith, told, rows_inside f (last_named c.args.desk.now c.loop-i.i + 1) (omega (arith, under, c.requires.first_bound, f.fitting)))
-
-pub returns-then-is_hard : goal.returns-then-is_hard
-unfolding soft_named
-returns-then-is_hard c =
-    let gave : not c.is_hard.result ≡ soft c.args.desk.now c.loop-i.i = let told = c.last_rows-rows.ensures c.loop-i.i (omega (arith, c.requires.n_le_most_named)) in
-    ap not (c.is_hard.ensures ∙ ap is_hard (c.row_on.ensures ∙ ap (row_on c.args.desk.now) told)) in
-    sym (every-false c.args.n (soft c.args.desk.now) c.loop-i.i (omega arith) (sym gave ∙ ap not c.if-is_hard.true))
-
-pub loop-i-preserved : goal.loop-i-preserved
-loop-i-preserved c =
-    let gave : not c.is_hard.result ≡ soft c.args.desk.now c.loop-i.i = let told = c.last_rows-rows.ensures c.loop-i.i (omega (arith, c.requires.n_le_most_named)) in
-    ap not (c.is_hard.ensures ∙ ap is_hard (c.row_on.ensures ∙ ap (row_on c.args.desk.now) told)) in
-    (omega arith, every_more c.loop-i.i (soft c.args.desk.now) ∙ both c.loop-i.invariant.1 (sym gave ∙ ap not c.if-is_hard.false))
+    let n : k < c.args.n = omega (arith, l, length-take-le c.args.n c.last_rows-rows.result (omega (arith, c.requires.n_le_most_named))) in
+    let told : x.now ≡ last_named c.args.desk.now k = get_or_read (take c.args.n c.last_rows-rows.result) k x.now l e 0
+    ∙ get_or-take c.args.n c.last_rows-rows.result k 0 n ∙ c.last_rows-rows.ensures k (omega (arith, c.requires.n_le_most_named)) in
+    let under = below-first c.args.desk.now c.args.n c.args.first c.requires.first_value k n in
+    let inside : head_words + row_words * (x.now + 1) ≤ length c.args.desk.now =
+    omega (arith, told, rows_inside f (last_named c.args.desk.now k + 1) (omega (arith, under, c.requires.first_bound, f.fitting))) in
+    search rules)
 
 pub returns : goal.returns
 unfolding soft_named
 returns c =
-    let e : c.loop-i.i ≡ c.args.n = omega arith in
-    sym (subst (λ (k : ℕ). every k (soft c.args.desk.now) ≡ true) e c.loop-i.invariant.1)
+    let p : ℕ → Bool = λ i. not (is_hard (row_on c.args.desk.now i)) in
+    every-from_all c.all.result (take c.args.n c.last_rows-rows.result) p
+    (cases_from_all _ _ _ (λ i. p i ≡ true) (λ i. p i ≡ false) c.all.ensures.ran (YieldsList-from_slice (take c.args.n c.last_rows-rows.result) cc) (λ x q k. search (rules, tests)) (λ x q k. search (rules, tests)))
+    ∙ rw (length-take-le c.args.n c.last_rows-rows.result (omega (arith, c.requires.n_le_most_named)))
+    (every-ext c.args.n (λ i l. ap p (get_or-take c.args.n c.last_rows-rows.result i 0 l ∙ c.last_rows-rows.ensures i (omega (arith, c.requires.n_le_most_named)))))

@@ -1,4 +1,4 @@
-use Prim.Native.Nat.{ℕ, ◌+◌, ◌-◌}
+use Prim.Native.Nat.{ℕ, ◌+◌}
 use mathlib.Core.Path.{◌≡◌, refl, sym, ap, ◌∙◌}
 use native.Mathlib.Omega.{arith}
 use lib.ListN.{length}
@@ -22,7 +22,6 @@ remnant_of-lit-requires c =
 
 pub loop-i-init : goal.loop-i-init
 loop-i-init c = (
-  omega arith,
   c.remnant_of-lit.ensures ∙ sym (lit-first _),
   sym (ap (laid c.args.desk.now c.args.first c.args.w) (compensating-none _) ∙ laid_none c.args.desk.now c.args.first c.args.w),
   refl,
@@ -34,7 +33,7 @@ overflow_add-i c = omega arith
 pub remnant_of-requires : goal.remnant_of-requires
 remnant_of-requires c =
     record {
-      on_desk = lies-still c.args.desk.now c.loop-i.desk c.args.named.now c.loop-i.invariant.3 c.requires.behind.lies;
+      on_desk = lies-still c.args.desk.now c.loop-i.desk c.args.named.now c.loop-i.invariant.2 c.requires.behind.lies;
       i_in_bounds = omega arith;
     }
 
@@ -42,32 +41,28 @@ pub overflow_add-first : goal.overflow_add-first
 overflow_add-first c = omega arith
 
 pub set_row-requires : goal.set_row-requires
-set_row-requires c = omega (arith, c.loop-i.invariant.3)
-
-pub overflow_add-i-in-loop-i : goal.overflow_add-i-in-loop-i
-overflow_add-i-in-loop-i c = omega arith
+set_row-requires c = omega (arith, c.loop-i.invariant.2)
 
 pub loop-i-preserved : goal.loop-i-preserved
 loop-i-preserved c =
     let f : ℕ → Lits = remnant_of c.args.desk.now c.args.named.now in
-    let remnant : c.remnant_of.result ≡ f (c.loop-i.i + 1) = remnant-yet _ _ _ c.args.w c.loop-i.i (c.requires.behind.before (c.loop-i.i + 1) (omega arith)) c.loop-i.invariant.2 c.remnant_of.ensures in
+    let remnant : c.remnant_of.result ≡ f (c.loop-i.i + 1) = remnant-yet _ _ _ c.args.w c.loop-i.i (c.requires.behind.before (c.loop-i.i + 1) (omega arith)) c.loop-i.invariant.1 c.remnant_of.ensures in
     let next : c.less-next.result ≡ R.lit f (c.loop-i.i + 1) = c.less-next.ensures
-    ∙ rw (remnant, c.negated.ensures, c.loop-i.invariant.1) (sym (lit-more f c.loop-i.i)) in
+    ∙ rw (remnant, c.negated.ensures, c.loop-i.invariant.0) (sym (lit-more f c.loop-i.i)) in
     let link : ℕ → Lits = λ i. together (R.lit f i) (negated_lits (R.lit f (i + 1))) in
     let row : c.new.result ≡ new_row (link c.loop-i.i) c.args.w = c.new.ensures
     ∙ ap (λ (x : Lits). new_row x c.args.w)
-    (c.together.ensures ∙ rw (c.negated-in-loop-i.ensures, next, c.loop-i.invariant.1) refl) in (
-      omega arith,
+    (c.together.ensures ∙ rw (c.negated-in-loop-i.ensures, next, c.loop-i.invariant.0) refl) in (
       next,
-      turn-laid _ c.args.named.now _ _ c.loop-i.i c.loop-i.invariant.2 row c.set_row.ensures,
-      ap length c.set_row.ensures ∙ length-set-row _ _ _ ∙ c.loop-i.invariant.3,
+      turn-laid _ c.args.named.now _ _ c.loop-i.i c.loop-i.invariant.1 row c.set_row.ensures,
+      ap length c.set_row.ensures ∙ length-set-row _ _ _ ∙ c.loop-i.invariant.2,
     )
 
 pub shape_of-desk : goal.shape_of-desk
-shape_of-desk c = c.loop-i.invariant.3
+shape_of-desk c = c.loop-i.invariant.2
 
 pub returns : goal.returns
 returns c =
     let e : c.loop-i.i ≡ c.args.k = omega arith in
-    c.loop-i.invariant.2 ∙ ap (λ (j : ℕ). laid c.args.desk.now c.args.first c.args.w
+    c.loop-i.invariant.1 ∙ ap (λ (j : ℕ). laid c.args.desk.now c.args.first c.args.w
     (compensating (remnant_of c.args.desk.now c.args.named.now) j)) e

@@ -1,5 +1,5 @@
 -- `reweigh` meets its contract: after i turns the first i named rows have their new weight, and the next its old one.
-use Prim.Native.Nat.{ℕ, ◌≤◌, ◌-◌}
+use Prim.Native.Nat.{ℕ}
 use mathlib.Core.Path.{◌≡◌}
 use mathlib.Core.List.{List}
 use lib.ListN.{length, get_or}
@@ -10,8 +10,5 @@ use Rattle.named.proofs.inner.reweigh.Given as goal
 abbrev row : List ℕ → ℕ → ℕ
 row named i = get_or named i 0
 
-abbrev pub invariant-loop-i : goal.invariant-loop-i
-invariant-loop-i l = (l.i ≤ length l.named) × (l.desk ≡ reweighed (new_weight l.w l.regain) (row l.named) l.initial.desk l.i) × (length l.desk ≡ length l.initial.desk)
-
-abbrev pub decreases-loop-i : goal.decreases-loop-i
-decreases-loop-i l = length l.named - l.i
+abbrev pub invariant-loop-row : goal.invariant-loop-row
+invariant-loop-row l = (l.desk ≡ reweighed (new_weight l.w l.regain) (row l.named) l.initial.desk l.row-index) × (length l.desk ≡ length l.initial.desk)

@@ -20,4 +20,6 @@ returns-then-n-first c =
     (sym (number_is c.args.s.now c.args.at c.digit_run-n.result c.byte_at-first.result c.digit_run-n.ensures c.byte_at-first.ensures c.if-n-first.true))
 
 pub returns-else-n-first : goal.returns-else-n-first
-returns-else-n-first c = sym (number-broken c.args.s.now c.args.at c.digit_run-n.result c.byte_at-first.result c.digit_run-n.ensures c.byte_at-first.ensures c.if-n-first.false)
+returns-else-n-first c =
+    sym
+    (number-broken c.args.s.now c.args.at c.digit_run-n.result c.byte_at-first.result c.digit_run-n.ensures c.byte_at-first.ensures c.if-n-first.false)

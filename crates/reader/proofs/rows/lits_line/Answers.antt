@@ -1,8 +1,7 @@
 -- `lits_line` meets its contract: the key, then the literals. A key that stands there ends within the text.
 use mathlib.Core.Path.{refl, sym, ◌∙◌}
 use native.Mathlib.Omega.{arith}
-use Rattle.text_laws.specs.Keys.{equal_sign}
-use Rattle.text_laws.specs.Keys.{lits_key}
+use Rattle.text_laws.specs.Keys.{equal_sign, lits_key}
 use Rattle.text_laws.proofs.Matched.{matched}
 use Rattle.text_laws.proofs.Stands.{ends_with}
 use Rattle.text_laws.proofs.Branches.{line-of-lits, line-no-lits}

@@ -1,10 +1,7 @@
 use Prim.Native.Nat.{◌+◌, ◌-◌, ◌*◌, ◌<◌}
-use mathlib.Core.Path.{refl, sym, ap, ◌∙◌}
+use mathlib.Core.Path.{sym, ap, ◌∙◌}
 use native.Mathlib.Nat.{sub-zero}
 use native.Mathlib.Omega.{arith}
-use lib.ListN.{length}
-use lib.Seq.{length-sets}
-use Rattle.rules.specs.Table.{row_words, row_words_of}
 use Rattle.rules.specs.Reader.{first_row_line, row_lines}
 use Rattle.text_laws.specs.Ends.{unbroken}
 use Rattle.text_laws.proofs.Matched.{matched}
@@ -12,38 +9,30 @@ use Rattle.text_laws.proofs.Branches.{row_line, unbroken-row, left_one, left-unb
 use Rattle.reader.proofs.rows.store_rows.Goals as goal
 
 pub loop-i-init : goal.loop-i-init
-loop-i-init c = (omega arith, refl, rw sub-zero c.requires.1, rw sub-zero)
-
-pub shape_of-table-in_default : goal.shape_of-table-in_default
-shape_of-table-in_default c = c.loop-i.invariant.1
+loop-i-init c = (rw sub-zero c.requires.1, rw sub-zero)
 
 pub returns-in_default : goal.returns-in_default
 returns-in_default c =
     let line = first_row_line + row_lines * c.loop-i.i in
-    let one = ap unbroken (sym (left_one c.args.s.now c.args.rows c.loop-i.i c.loop-i.at (omega arith))) ∙ c.loop-i.invariant.2 in
+    let one = ap unbroken (sym (left_one c.args.s.now c.args.rows c.loop-i.i c.loop-i.at (omega arith))) ∙ c.loop-i.invariant.0 in
     let row = matched c.row_at.ensures c.in_default.is in
     absurd (unbroken-row c.args.s.now (c.args.rows - (c.loop-i.i + 1)) c.loop-i.at line first_row_line _ one row)
 
 pub overflow_mul-i : goal.overflow_mul-i
-overflow_mul-i c = omega (arith, c.loop-i.invariant.1)
+overflow_mul-i c = omega (arith, c.loop-i.auto.table)
 
 pub set_row_in-requires : goal.set_row_in-requires
-set_row_in-requires c = omega (arith, c.loop-i.invariant.1)
+set_row_in-requires c = omega (arith, c.loop-i.auto.table)
 
 pub loop-i-preserved : goal.loop-i-preserved
 loop-i-preserved c =
     let line = first_row_line + row_lines * c.loop-i.i in
-    let read = row_line c.args.s.now c.loop-i.at first_row_line line c.in-Lines.row c.in-Lines.next (matched c.row_at.ensures c.in-Lines.is) in
+    let read = row_line c.args.s.now c.loop-i.at first_row_line line c.in-Ok.row c.in-Ok.next (matched c.row_at.ensures c.in-Ok.is) in
     let left : c.loop-i.i < c.args.rows = omega arith in
-    let words = left-stored c.args.s.now c.args.rows c.loop-i.i c.loop-i.at c.in-Lines.row c.in-Lines.next left read c.loop-i.table c.loop-i.invariant.2 in (
-      omega arith,
-      ap length c.set_row_in.ensures ∙ length-sets c.loop-i.table (row_words * c.loop-i.i) (row_words_of c.in-Lines.row) ∙ c.loop-i.invariant.1,
-      left-unbroken c.args.s.now c.args.rows c.loop-i.i c.loop-i.at c.in-Lines.row c.in-Lines.next left read c.loop-i.invariant.2,
-      rw c.set_row_in.ensures (words ∙ c.loop-i.invariant.3),
+    let words = left-stored c.args.s.now c.args.rows c.loop-i.i c.loop-i.at c.in-Ok.row c.in-Ok.next left read c.loop-i.table c.loop-i.invariant.0 in (
+      left-unbroken c.args.s.now c.args.rows c.loop-i.i c.loop-i.at c.in-Ok.row c.in-Ok.next left read c.loop-i.invariant.0,
+      rw c.set_row_in.ensures (words ∙ c.loop-i.invariant.1),
     )
 
-pub shape_of-table : goal.shape_of-table
-shape_of-table c = c.loop-i.invariant.1
-
 pub returns : goal.returns
-returns c = matched (stored-end c.args.s.now c.args.rows c.loop-i.i c.loop-i.at c.loop-i.table (omega arith)) c.loop-i.invariant.3
+returns c = matched (stored-end c.args.s.now c.args.rows c.loop-i.i c.loop-i.at c.loop-i.table (omega arith)) c.loop-i.invariant.1

@@ -1,4 +1,4 @@
-use Prim.Native.Nat.{◌+◌, ◌-◌}
+use Prim.Native.Nat.{◌+◌}
 use mathlib.Core.Path.{◌≡◌, sym, ap, ◌∙◌}
 use native.Mathlib.Omega.{arith}
 use Rattle.literals.specs.Lits.{is_one, negated_lits}
@@ -16,20 +16,20 @@ remnant_of-lit-requires c =
     }
 
 pub loop-i-init : goal.loop-i-init
-loop-i-init c = (omega arith, c.remnant_of-lit.ensures ∙ sym (lit-first _), c.is_one-fits.ensures ∙ ap is_one c.remnant_of-lit.ensures ∙ sym (links-first _))
+loop-i-init c = (c.remnant_of-lit.ensures ∙ sym (lit-first _), c.is_one-fits.ensures ∙ ap is_one c.remnant_of-lit.ensures ∙ sym (links-first _))
 
 pub loop-i-preserved : goal.loop-i-preserved
 loop-i-preserved c =
     let f = remnant_of c.args.desk.now c.args.named.now in
-    let n = c.negated.ensures ∙ ap negated_lits c.loop-i.invariant.1 in
-    let m = c.negated-in-loop-i.ensures ∙ ap negated_lits c.loop-i.invariant.1 in
+    let n = c.negated.ensures ∙ ap negated_lits c.loop-i.invariant.0 in
+    let m = c.negated-in-loop-i.ensures ∙ ap negated_lits c.loop-i.invariant.0 in
     let next : c.less-next.result ≡ R.lit f (c.loop-i.i + 1) =
     c.less-next.ensures ∙ rw (c.remnant_of-r.ensures, n) (sym (lit-more f c.loop-i.i)) in
-    (omega arith, next, rw (c.loop-i.invariant.2, c.shows-fits.ensures, c.remnant_of-r.ensures, m, next) (sym (links-more f c.loop-i.i)))
+    (next, rw (c.loop-i.invariant.1, c.shows-fits.ensures, c.remnant_of-r.ensures, m, next) (sym (links-more f c.loop-i.i)))
 
 pub returns : goal.returns
 unfolding link_of
 returns c =
     let f = remnant_of c.args.desk.now c.args.named.now in
     let e : c.loop-i.i ≡ c.args.k = omega arith in
-    rw (c.loop-i.invariant.1, c.loop-i.invariant.2, e)
+    rw (c.loop-i.invariant.0, c.loop-i.invariant.1, e)

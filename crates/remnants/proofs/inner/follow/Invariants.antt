@@ -1,5 +1,4 @@
 -- `follow` meets its contract: after i turns it stands at the literal that row i fixes.
-use Prim.Native.Nat.{◌≤◌, ◌-◌}
 use mathlib.Core.Path.{◌≡◌}
 use Rattle.rules.specs.Rewrite.{links}
 use Rattle.rules.specs.Steps.{remnant_of}
@@ -7,7 +6,4 @@ use Rattle.rules.specs.Rewrite as R
 use Rattle.remnants.proofs.inner.follow.Given as goal
 
 abbrev pub invariant-loop-i : goal.invariant-loop-i
-invariant-loop-i l = (l.i ≤ l.k) × (l.lit ≡ R.lit (remnant_of l.desk l.named) l.i) × (l.fits ≡ links (remnant_of l.desk l.named) l.i)
-
-abbrev pub decreases-loop-i : goal.decreases-loop-i
-decreases-loop-i l = l.k - l.i
+invariant-loop-i l = (l.lit ≡ R.lit (remnant_of l.desk l.named) l.i) × (l.fits ≡ links (remnant_of l.desk l.named) l.i)

@@ -1,4 +1,4 @@
-use Prim.Native.Nat.{ℕ, ◌+◌, ◌≤◌, ◌-◌}
+use Prim.Native.Nat.{ℕ, ◌+◌, ◌≤◌}
 use mathlib.Core.Path.{◌≡◌, ◌∙◌, ap}
 use mathlib.Core.List.{List}
 use native.Mathlib.Omega.{arith}
@@ -16,7 +16,7 @@ unfolding weight_on
 fits d r i h = omega (arith, r.weights, sum_mono (i + 1) (in_use d) (λ k. (row_on d k).weight) h)
 
 pub loop-i-init : goal.loop-i-init
-loop-i-init c = (omega arith, omega (arith, c.word-weight.ensures, sum-empty (λ k. (row_on c.args.desk.now k).weight)))
+loop-i-init c = omega (arith, c.word-weight.ensures, sum-empty (λ k. (row_on c.args.desk.now k).weight))
 
 pub row_on-row-requires : goal.row_on-row-requires
 row_on-row-requires c = omega (arith, c.requires.rows, c.word-n.ensures)
@@ -29,10 +29,10 @@ overflow_add-weight c =
 pub loop-i-preserved : goal.loop-i-preserved
 loop-i-preserved c =
     let gave : c.row_on-row.result.weight ≡ (row_on c.args.desk.now c.loop-i.i).weight = ap (λ (r : Row). r.weight) c.row_on-row.ensures in
-    (omega arith, omega (arith, gave, sum_more c.loop-i.i (λ k. (row_on c.args.desk.now k).weight)))
+    omega (arith, gave, sum_more c.loop-i.i (λ k. (row_on c.args.desk.now k).weight))
 
 pub returns : goal.returns
 unfolding weight_on
 returns c =
     let e : c.loop-i.i ≡ in_use c.args.desk.now = omega (arith, c.word-n.ensures) in
-    c.loop-i.invariant.1 ∙ ap (λ (k : ℕ). conceded c.args.desk.now + sum k (λ j. (row_on c.args.desk.now j).weight)) e
+    c.loop-i.invariant ∙ ap (λ (k : ℕ). conceded c.args.desk.now + sum k (λ j. (row_on c.args.desk.now j).weight)) e

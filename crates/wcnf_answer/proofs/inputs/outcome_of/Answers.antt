@@ -25,19 +25,19 @@ slice_bounds-search_read-end c =
 pub search_read-requires : goal.search_read-requires
 search_read-requires c =
     let fine : ReadFine most_input_rows c.args.input.now (row_words * most_input_rows)
-    c.in-Table.variables c.in-Table.rows = read-fine _ _ _ _ _ (matched c.read_up_to.ensures.answer c.in-Table.is) in
+    c.in-Ok.variables c.in-Ok.rows = read-fine _ _ _ _ _ (matched c.read_up_to.ensures.answer c.in-Ok.is) in
     let long : length (replicate {A = ℕ} head_words 0 ++ (c.read_up_to.new.table ++ [])) ≡ head_words + row_words * most_input_rows = omega (arith, c.read_up_to.auto.table, ap length (append-nil c.read_up_to.new.table)) in
     omega (arith, fine.few, long)
 
-pub returns-in-Refused : goal.returns-in-Refused
-returns-in-Refused c =
-    let told = matched c.read_up_to.ensures.answer c.in-Refused.is in
+pub returns-in-Err : goal.returns-in-Err
+returns-in-Err c =
+    let told = matched c.read_up_to.ensures.answer c.in-Err.is in
     not-read c.args.input.now c.if-input-gt-MOST_INPUT.false _ _ refl told
 
-pub returns-in-Table : goal.returns-in-Table
-returns-in-Table c =
-    let told = matched c.read_up_to.ensures.answer c.in-Table.is in
+pub returns-in-Ok : goal.returns-in-Ok
+returns-in-Ok c =
+    let told = matched c.read_up_to.ensures.answer c.in-Ok.is in
     let table = replicate {A = ℕ} (row_words * most_input_rows) 0 in
-    let stored = ap (take (row_words * c.in-Table.rows)) c.read_up_to.ensures.words ∙ front-words most_input_rows c.args.input.now table _ _ told in
-    let words = first_read (row_words * c.in-Table.rows) _ ∙ stored in
+    let stored = ap (take (row_words * c.in-Ok.rows)) c.read_up_to.ensures.words ∙ front-words most_input_rows c.args.input.now table _ _ told in
+    let words = first_read (row_words * c.in-Ok.rows) _ ∙ stored in
     c.search_read.ensures ∙ read c.args.input.now c.if-input-gt-MOST_INPUT.false _ _ _ _ refl told words

@@ -1,22 +1,7 @@
-use Prim.Native.Nat.{ℕ}
-use mathlib.Core.Path.{◌≡◌, refl, ap, ◌∙◌}
+-- `store` meets its contract: the part that the entry is copied over is a run of stores.
 use native.Mathlib.Omega.{arith}
-use lib.ListN.{length, take, length-set}
-use lib.Seq.{sets, take-length}
-use Rattle.rules.specs.Desk.{entry_words}
-use Rattle.masks.proofs.Words.{copied_more}
+use Rattle.masks.proofs.Words.{put_mid-sets}
 use Rattle.words.proofs.inner.store.Goals as goal
 
-pub loop-i-init : goal.loop-i-init
-loop-i-init c = (omega arith, refl, refl)
-
-pub loop-i-preserved : goal.loop-i-preserved
-loop-i-preserved c =
-    let n : length c.args.entry ≡ entry_words = omega arith in
-    (omega arith, rw c.loop-i.invariant.1 (copied_more c.args.desk.now c.args.entry c.args.at c.loop-i.i (omega arith)), simp length-set (omega arith))
-
 pub returns : goal.returns
-returns c =
-    let n : length c.args.entry ≡ entry_words = omega arith in
-    let e : c.loop-i.i ≡ length c.args.entry = omega arith in
-    c.loop-i.invariant.1 ∙ ap (sets c.args.desk.now c.args.at) (ap (λ (k : ℕ). take k c.args.entry) e ∙ take-length c.args.entry)
+returns c = rw c.copy_from_slice.ensures.after (put_mid-sets c.args.desk.now c.args.entry c.args.at 16 (omega arith) (omega arith))

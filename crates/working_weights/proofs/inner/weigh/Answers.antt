@@ -1,4 +1,4 @@
-use Prim.Native.Nat.{ℕ, ◌+◌, ◌-◌, ◌^◌, ◌<◌}
+use Prim.Native.Nat.{ℕ, ◌+◌, ◌^◌, ◌<◌}
 use mathlib.Core.Path.{◌≡◌, sym, ap, subst, ◌∙◌}
 use native.Mathlib.Omega.{arith}
 use Rattle.masks.proofs.Sums.{sum-empty, sum_more}
@@ -15,7 +15,7 @@ use Rattle.working_weights.proofs.Sharing.{works-none, works-more}
 use Rattle.working_weights.proofs.inner.weigh.Goals as goal
 
 pub loop-i-init : goal.loop-i-init
-loop-i-init c = (omega arith, sym (sum-empty _), works-none _ _ _)
+loop-i-init c = (sym (sum-empty _), works-none _ _ _)
 
 pub row_on-row-requires : goal.row_on-row-requires
 row_on-row-requires c = omega (arith, c.requires.readable.0.rows, c.word-n.ensures)
@@ -31,12 +31,12 @@ shares-s-requires c =
 pub offset_bounds-weights-i : goal.offset_bounds-weights-i
 offset_bounds-weights-i c =
     let within : c.loop-i.i < in_use c.args.desk.now = omega (arith, c.word-n.ensures) in
-    omega (arith, within, c.requires.desk_in_bounds, c.loop-i.invariant.2.kept)
+    omega (arith, within, c.requires.desk_in_bounds, c.loop-i.invariant.1.kept)
 
 pub bounds-weights-i : goal.bounds-weights-i
 bounds-weights-i c =
     let within : c.loop-i.i < in_use c.args.desk.now = omega (arith, c.word-n.ensures) in
-    omega (arith, within, c.requires.desk_in_bounds, c.loop-i.invariant.2.kept)
+    omega (arith, within, c.requires.desk_in_bounds, c.loop-i.invariant.1.kept)
 
 pub overflow_add-lost : goal.overflow_add-lost
 unfolding shares_of
@@ -46,7 +46,7 @@ overflow_add-lost c =
     let within : c.loop-i.i < in_use c.args.desk.now = omega (arith, c.word-n.ensures) in
     let fits : lost_charged c.args.charge c.args.desk.now c.args.p c.loop-i.i + (charged_row c.args.charge (row_on c.args.desk.now c.loop-i.i)).weight < 2 ^ 64 = charged-fits c.args.desk.now c.args.p c.requires.readable.0 c.args.charge c.requires.readable.1 c.loop-i.i within in
     let most = where-le is_empty c.args.p (charged_row c.args.charge (row_on c.args.desk.now c.loop-i.i)) in
-    omega (arith, c.loop-i.invariant.1, lost-here, most, fits)
+    omega (arith, c.loop-i.invariant.0, lost-here, most, fits)
 
 pub loop-i-preserved : goal.loop-i-preserved
 unfolding shares_of
@@ -54,19 +54,18 @@ loop-i-preserved c =
     let lost-here : c.shares-s.result.lost ≡ weight_where is_empty c.args.p (charged_row c.args.charge (row_on c.args.desk.now c.loop-i.i)) = ap (λ (s : Shares). s.lost) c.shares-s.ensures
     ∙ ap (λ (r : Row). weight_where is_empty c.args.p (charged_row c.args.charge r)) c.row_on-row.ensures in
     let within : c.loop-i.i < in_use c.args.desk.now = omega (arith, c.word-n.ensures) in (
-      omega arith,
-      omega (arith, c.loop-i.invariant.1, lost-here, sum_more c.loop-i.i (λ k. weight_where is_empty c.args.p (charged_row c.args.charge (row_on c.args.desk.now k)))),
-      works-more c.args.desk.now c.args.p c.args.weights.now c.loop-i.i c.loop-i.weights c.loop-i.invariant.2 (omega (arith, within, c.requires.desk_in_bounds, c.loop-i.invariant.2.kept)) _
+      omega (arith, c.loop-i.invariant.0, lost-here, sum_more c.loop-i.i (λ k. weight_where is_empty c.args.p (charged_row c.args.charge (row_on c.args.desk.now k)))),
+      works-more c.args.desk.now c.args.p c.args.weights.now c.loop-i.i c.loop-i.weights c.loop-i.invariant.1 (omega (arith, within, c.requires.desk_in_bounds, c.loop-i.invariant.1.kept)) _
           c.row_on-row.ensures c.args.charge _ c.shares-s.ensures,
     )
 
 pub shape_of-weights : goal.shape_of-weights
-shape_of-weights c = c.loop-i.invariant.2.kept
+shape_of-weights c = c.loop-i.invariant.1.kept
 
 pub returns : goal.returns
 returns c =
     let e : c.loop-i.i ≡ in_use c.args.desk.now = omega (arith, c.word-n.ensures) in
     record {
-      value = c.loop-i.invariant.1 ∙ ap (lost_charged c.args.charge c.args.desk.now c.args.p) e;
-      works = subst (λ (n : ℕ). Works c.args.desk.now c.args.p n c.args.weights.now c.loop-i.weights) e c.loop-i.invariant.2;
+      value = c.loop-i.invariant.0 ∙ ap (lost_charged c.args.charge c.args.desk.now c.args.p) e;
+      works = subst (λ (n : ℕ). Works c.args.desk.now c.args.p n c.args.weights.now c.loop-i.weights) e c.loop-i.invariant.1;
     }
