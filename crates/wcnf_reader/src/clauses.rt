@@ -16,7 +16,13 @@ fn ends(s: &[u8], at: usize) -> bool
 }
 
 // The clauses, of which the first is on this line, and that nothing follows them: line by line 20, 5.
-fn clauses_why(s: &[u8], from: usize, clauses: u64, variables: u64, first: u64) -> Result<(), Refusal>
+fn clauses_why(
+    s: &[u8],
+    from: usize,
+    clauses: u64,
+    variables: u64,
+    first: u64,
+) -> Result<(), Refusal>
     requires { (clauses ≤ most_rows) × (first ≤ length s.now + 2) }
     ensures { result ≡ clauses_why clauses 0 variables s.now from first }
 {
@@ -79,12 +85,14 @@ pub fn store_rows(s: &[u8], from: usize, rows: usize, top: u64, table: &mut [u64
 {
     let mut at = from;
     for i in 0..rows {
-        let Some(ClauseRead {
-            weight,
-            lits,
-            bad: _,
-            next,
-        }) = wcnf_pieces::clause_at(s, at, Literal::MOST)
+        let Some(
+            ClauseRead {
+                weight,
+                lits,
+                bad: _,
+                next,
+            },
+        ) = wcnf_pieces::clause_at(s, at, Literal::MOST)
         else {
             return;
         };
