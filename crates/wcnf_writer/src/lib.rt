@@ -19,13 +19,9 @@ fn top_of(table: &[u64]) -> u64
     ensures { result ≡ top_of table.now }
 {
     let n = table.len() / Row::WORDS;
-    let mut weights = 0;
-    let mut i = 0;
-    while i < n {
-        let row = words::inner::row_in(table, Row::WORDS * i);
-        weights += row.weight;
-        i += 1;
-    }
+    let weights: u64 = (0..n)
+        .map(|i| words::inner::row_in(table, Row::WORDS * i).weight)
+        .sum();
     weights + 1
 }
 

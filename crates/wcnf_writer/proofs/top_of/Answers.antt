@@ -1,39 +1,49 @@
-use Prim.Native.Nat.{ℕ, ◌+◌, ◌-◌}
-use mathlib.Core.Path.{◌≡◌, sym, ap, subst}
+-- `top_of` meets its contract: the sum is over all rows, and one more fits.
+use Prim.Native.Nat.{ℕ, ◌+◌, ◌<◌, ◌^◌}
+use mathlib.Core.Path.{◌≡◌, ◌∙◌, ap}
+use mathlib.Core.List.{List}
+use native.Mathlib.Nat.{zero-add}
 use native.Mathlib.Omega.{arith}
+use Rattle.std.proofs.Common.{rules}
+use Rattle.std.proofs.lemmas.Iterator.{YieldsList-from_range, YieldsList-from_map}
+use Rattle.std.proofs.lemmas.Iterator.Consumers.{sum_by_from_yields_List, fits_by_from_yields_list}
+use Rattle.std.specs.List.{range_with_len, sum_by}
 use Rattle.masks.specs.Sums.{sum}
-use Rattle.masks.proofs.Sums.{sum-empty, sum_more, sum_mono}
-use Rattle.rules.specs.declared.Row.{Row}
+use Rattle.masks.proofs.Sums.{sum-from_range, sum-ext}
 use Rattle.rules.specs.Table.{row_of, row_count}
 use Rattle.rules.specs.Wcnf.{top_of}
 use Rattle.wcnf_writer.proofs.top_of.Goals as goal
 
-pub loop-i-init : goal.loop-i-init
-loop-i-init c = (omega arith, sym (sum-empty _))
+-- what row i weighs
+abbrev each : List ℕ → ℕ → ℕ
+each table i = (row_of table i).weight
 
-pub overflow_add-weights : goal.overflow_add-weights
+-- summed over the first n rows
+total : (table : List ℕ) (n : ℕ) → sum_by (each table) (range_with_len 0 n) ≡ sum n (each table)
+total table n = sum-from_range 0 n (each table) ∙ sum-ext n (λ i l. ap (each table) (zero-add i))
+
+pub sum-weights-requires-clause-fits : goal.sum-weights-requires-clause-fits
 unfolding row_count row_of
-overflow_add-weights c =
-    let gave : c.row_in-row.result.weight ≡ (row_of c.args.table.now c.loop-i.i).weight = ap (λ (r : Row). r.weight) c.row_in-row.ensures in
-    let w : ℕ → ℕ = λ k. (row_of c.args.table.now k).weight in
-    omega (arith, gave, sum_more c.loop-i.i w, sum_mono (c.loop-i.i + 1) (row_count c.args.table.now) w (omega arith), c.requires)
+sum-weights-requires-clause-fits c =
+    let n = row_count c.args.table.now in
+    let most : sum_by (each c.args.table.now) (range_with_len 0 n) < 2 ^ 64 = omega (arith, total c.args.table.now n, c.requires) in
+    fits_by_from_yields_list (each c.args.table.now) (range_with_len 0 n) c.map.result _
+    (YieldsList-from_map _ (each c.args.table.now) (YieldsList-from_range 0 n n c.map.ensures.source (omega arith)) c.map.ensures.closure
+    (λ x r q k. search rules))
+    most
 
-pub loop-i-preserved : goal.loop-i-preserved
-unfolding row_of
-loop-i-preserved c =
-    let gave : c.row_in-row.result.weight ≡ (row_of c.args.table.now c.loop-i.i).weight = ap (λ (r : Row). r.weight) c.row_in-row.ensures in
-    (omega arith, omega (arith, gave, sum_more c.loop-i.i (λ k. (row_of c.args.table.now k).weight)))
+sum-is : (c : goal.After-sum-weights) → c.sum-weights.result ≡ sum (row_count c.args.table.now) (each c.args.table.now)
+unfolding row_count row_of
+sum-is c =
+    let n = row_count c.args.table.now in
+    sum_by_from_yields_List (each c.args.table.now) (range_with_len 0 n) c.map.result _ c.sum-weights.ensures.ran
+    (YieldsList-from_map _ (each c.args.table.now) (YieldsList-from_range 0 n n c.map.ensures.source (omega arith)) c.map.ensures.closure
+    (λ x r q k. search rules))
+    ∙ total c.args.table.now n
 
 pub overflow_add-result : goal.overflow_add-result
-unfolding row_count
-overflow_add-result c =
-    let all : c.loop-i.i ≡ row_count c.args.table.now = omega arith in
-    let light = subst (λ (k : ℕ). c.loop-i.weights ≡ sum k (λ j. (row_of c.args.table.now j).weight)) all c.loop-i.invariant.1 in
-    omega (arith, light, c.requires)
+overflow_add-result c = omega (arith, sum-is c, c.requires)
 
 pub returns : goal.returns
-unfolding top_of row_count
-returns c =
-    let all : c.loop-i.i ≡ row_count c.args.table.now = omega arith in
-    let weights = subst (λ (k : ℕ). c.loop-i.weights ≡ sum k (λ j. (row_of c.args.table.now j).weight)) all c.loop-i.invariant.1 in
-    ap (λ (w : ℕ). w + 1) weights
+unfolding top_of
+returns c = ap (λ w. w + 1) (sum-is c)
