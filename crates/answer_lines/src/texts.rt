@@ -1,6 +1,8 @@
 // The answer to a text, as a text.
+ghost use Rattle.std.specs.Prelude.{◌≤◌};
+ghost use Rattle.std.specs.Result.{ForOk};
+ghost use Rattle.literals.specs.Literal.{most_variables};
 ghost use Rattle.rules.specs.Program.{outcome_text};
-ghost use Rattle.readings.specs.Line.{Counted};
 
 use crate::inner::put_outcome;
 use pieces_written::Text;
@@ -9,7 +11,7 @@ use rules::{Outcome, Refusal};
 #[derive(Clone, Copy)]
 pub struct AnswerText {
     pub outcome: Result<Outcome, Refusal>,
-    pub ghost counted: { Counted outcome },
+    pub ghost few: { ForOk outcome (λ o. o.variables ≤ most_variables) },
 }
 
 impl Text for AnswerText {
