@@ -26,7 +26,7 @@ numbered key k l = get_or-enumerate_from 0 key k (0, 0) l ∙ rw (zero-add k)
 
 each : (s : List ℕ) (at : ℕ) (key : List ℕ) (r : Bool)
     → MatchBool r (AllWithin (There s at) (enumerate_from 0 key) 0 (length (enumerate_from 0 key)))
-      ((k : ℕ) × (k < length (enumerate_from 0 key)) × HoldsAt (λ p. There s at p → ⊥) (enumerate_from 0 key) k)
+    ((k : ℕ) × (k < length (enumerate_from 0 key)) × HoldsAt (λ p. There s at p → ⊥) (enumerate_from 0 key) k)
     → r ≡ stands s at key
 each s at key true h =
     sym (stands_of s at key (λ k l. subst (There s at) (numbered key k l) (h k (0, 0) (omega arith) (rw (length-enumerate_from 0 key) l))))
