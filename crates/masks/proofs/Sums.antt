@@ -12,9 +12,10 @@ use native.Mathlib.Omega.{arith}
 use lib.Arith.{le-zero}
 use mathlib.Core.List.{List}
 use lib.ListN.{length, get_or}
+use Rattle.std.proofs.lemmas.List.Sums.{sum_by-cons}
 use Rattle.std.specs.Bool.{MatchBool}
 use Rattle.std.proofs.lemmas.List.FromFn.{length-range_with_len, get_or-range_with_len}
-use Rattle.std.specs.List.{AllWithin, HoldsAt, range_with_len}
+use Rattle.std.specs.List.{AllWithin, HoldsAt, range_with_len, sum_by}
 use Rattle.masks.specs.Sums.{sum, every, smallest}
 use Rattle.masks.proofs.Choice.{cases, lt-or-le, not_so, clash, and_left, and_right, and-swap}
 
@@ -142,6 +143,15 @@ sum_lt (suc n) {f} {g} i l h s =
     (λ e. omega (arith, sum-le n {f = f} {g = g} (downwards h), ap f e, ap g e))
     (λ m. omega (arith, sum_lt n {f = f} {g = g} i m (downwards h) s, h n (le_refl (suc n))))
     (eq-or-lt_of_le (le_of_suc-le-suc l))
+
+-- what `sum` says of a number for each index below a count
+pub sum-from_range : (a n : ℕ) (f : ℕ → ℕ) → sum_by f (range_with_len a n) ≡ sum n (λ i. f (a + i))
+unfolding sum
+sum-from_range a zero f = refl
+sum-from_range a (suc n) f =
+    let first : f (a + 0) ≡ f a = ap f (add-zero a) in
+    let rest : sum n (λ i. f (a + 1 + i)) ≡ sum n (λ i. f (a + suc i)) = sum-ext n (λ i l. ap f (omega arith)) in
+    omega (arith, sum_by-cons f a (range_with_len (a + 1) n), sum-from_range (a + 1) n f, sum-front n (λ i. f (a + i)), first, rest)
 
 -- ---- tests
 

@@ -1,6 +1,6 @@
 -- Rows judged in order: the first refusal stays, however many rows follow. And what a reading gives up is at most the rows' weights.
 use Rattle.std.specs.Prelude.{Ok, Err}
-use Prim.Native.Nat.{ℕ, suc, ◌+◌, ◌*◌, ◌/◌, ◌≤◌, ◌<◌}
+use Prim.Native.Nat.{ℕ, suc, ◌+◌, ◌*◌, ◌/◌, ◌≤◌}
 use mathlib.Core.Path.{◌≡◌, refl, ap, ◌∙◌}
 use mathlib.Core.List.{List}
 use mathlib.Core.Bool.{not}
@@ -14,7 +14,7 @@ use native.Mathlib.Decide.{le_ind}
 use Rattle.masks.specs.Masks.{below}
 use Rattle.masks.specs.Sums.{sum}
 use Rattle.literals.specs.Literal.{most_variables}
-use Rattle.masks.proofs.Sums.{sum_more, sum_mono, sum-le}
+use Rattle.masks.proofs.Sums.{sum-le}
 use Rattle.masks.proofs.Choice.{cond-elim}
 use Rattle.rules.specs.declared.Row.{Row}
 use Rattle.rules.specs.declared.Refusal.{Refusal}
@@ -48,13 +48,10 @@ unfolding given_up
 given-le row reading =
     cond-elim (λ (x : ℕ). x ≤ row.weight) (holds row.lits reading) 0 row.weight (λ e. omega arith) (λ e. le_refl _)
 
--- what has been given up so far, and the next row, stay within a limit of all weights
-pub given-fits : (t : List ℕ) (reading i n limit : ℕ) → i < n → sum n (λ k. (row_of t k).weight) ≤ limit
-    → sum i (λ k. given_up (row_of t k) reading) + given_up (row_of t i) reading ≤ limit
-given-fits t reading i n limit h fits =
-    let g : ℕ → ℕ = λ k. given_up (row_of t k) reading in
-    let w : ℕ → ℕ = λ k. (row_of t k).weight in
-    omega (arith, sum_more i g, sum_mono (i + 1) n g (omega arith), sum-le n {f = g} {g = w} (λ k _. given-le (row_of t k) reading))
+-- what is given up stays within a limit of all weights
+pub given-fits : (t : List ℕ) (reading n limit : ℕ) → sum n (λ k. (row_of t k).weight) ≤ limit → sum n (λ k. given_up (row_of t k) reading) ≤ limit
+given-fits t reading n limit fits =
+    omega (arith, sum-le n {f = λ k. given_up (row_of t k) reading} {g = λ k. (row_of t k).weight} (λ k _. given-le (row_of t k) reading))
 
 -- the sum that starts at 0, at the first word
 pub sum-from-first : (t : List ℕ) → ltb most_weight (0 + sum (length t / row_words) (λ i. (row_in t (0 + row_words * i)).weight)) ≡ sum_too_large t

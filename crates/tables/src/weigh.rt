@@ -36,11 +36,9 @@ fn given_up(table: &[u64], n: usize, reading: u64) -> u64
     requires i_bound { sum n (λ i. (row_of table.now i).weight) ≤ most_weight }
     ensures { result ≡ sum n (λ i. given_up (row_of table.now i) reading) }
 {
-    let mut weight = 0;
-    for i in 0..n {
-        weight += values::given_up(row_in(table, Row::WORDS * i), reading);
-    }
-    weight
+    (0..n)
+        .map(|i| values::given_up(row_in(table, Row::WORDS * i), reading))
+        .sum()
 }
 
 // The reading breaks none of the first n rows that is hard.

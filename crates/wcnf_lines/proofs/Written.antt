@@ -1,6 +1,6 @@
 -- The lines of an answer as the bytes that are stored for them, by case, and how long each can be.
 use Rattle.std.specs.Prelude.{Option, Some, None}
-use Prim.Native.Nat.{ℕ, ◌+◌, ◌≤◌}
+use Prim.Native.Nat.{ℕ, ◌≤◌}
 use mathlib.Core.Path.{◌≡◌, refl, ap, ◌∙◌}
 use mathlib.Core.List.{List, [], ◌∷◌, ◌++◌, append_assoc}
 use native.Mathlib.Omega.{arith}
@@ -37,9 +37,6 @@ refusal_is why told e =
     (ap (λ (x : List ℕ). x ++ unknown_line) (append_assoc n (place_key ++ p) end ∙ ap (λ (x : List ℕ). n ++ x) (append_assoc place_key p end))
     ∙ append_assoc n (place_key ++ (p ++ end)) unknown_line))
 
-pub weight-none : (b : Option Best) → b ≡ None → best_weight_text b ≡ []
-weight-none b e = rw e
-
 pub weight-some : (b : Option Best) (w r : ℕ) → b ≡ Some (record { weight = w; reading = r }) → best_weight_text b ≡ line_text weight_key w
 unfolding line bytes line_text
 weight-some b w r e = rw e
@@ -55,9 +52,6 @@ statement-stopped s e = rw e
 pub statement-impossible : (s : Status) → s ≡ Status.Impossible → statement_text s ≡ impossible_line
 unfolding line bytes
 statement-impossible s e = rw e
-
-pub values-none : (n : ℕ) (b : Option Best) → b ≡ None → values_text n b ≡ []
-values-none n b e = rw e
 
 pub values-some : (n : ℕ) (b : Option Best) (w r : ℕ) (l : Lits) → b ≡ Some (record { weight = w; reading = r }) → l ≡ literals_of n r
     → values_text n b ≡ values_key ++ (spaced_lits 0 n l ++ (line_feed ∷ []))

@@ -1,7 +1,7 @@
 -- A clause read member by member: a signed number in each of its forms, what the definition comes to behind one, and what was gathered so far
 -- with what is still to be read. Whoever reads on gathers what the definition says of the whole list.
 use Rattle.std.specs.Prelude.{Option, Some, None}
-use Prim.Native.Nat.{ℕ, zero, suc, ◌+◌, ◌-◌, ◌<◌}
+use Prim.Native.Nat.{ℕ, zero, suc, ◌+◌, ◌<◌}
 use mathlib.Core.Path.{◌≡◌, refl, sym, ap, ap₂, ◌∙◌}
 use mathlib.Core.Bool.{Bool, true, false, cond, ◌||◌, or_assoc, or-false}
 use mathlib.Core.List.{List, []}
@@ -10,7 +10,7 @@ use borrow.Author.Tests.{eq-eqb, ne_eqb}
 use lib.Dec.{eqb, ltb}
 use lib.IntN.{ℤ, pos, negsuc, neg_ℤ}
 use lib.ListN.{length, get_or}
-use Rattle.masks.proofs.Choice.{impossible, not_so}
+use Rattle.masks.proofs.Choice.{impossible, not_so, some-same}
 use Rattle.literals.specs.declared.Literal.{Literal}
 use Rattle.literals.specs.declared.Lits.{Lits}
 use Rattle.literals.specs.Literal.{most_variables, size, is_literal, opposite, lits_of, offered}
@@ -95,17 +95,6 @@ module _ (s : List ℕ) (at : ℕ) where
   unfolding member_at
   member_is gap e h = rw (← e, ne_eqb gap 0 h)
 
--- ---- behind the closing 0
-
-module _ (s : List ℕ) (at : ℕ) (lits : Lits) (above : Bool) where
-  pub closed_is : get_or s at 0 ≡ line_feed → closed_at s at lits above ≡ Some (record { lits = lits; above = above; next = at + 1 })
-  unfolding closed_at
-  closed_is e = rw (eq-eqb (get_or s at 0) line_feed e)
-
-  pub closed-not : (get_or s at 0 ≡ line_feed → ⊥) → closed_at s at lits above ≡ None
-  unfolding closed_at
-  closed-not h = rw (ne_eqb (get_or s at 0) line_feed h)
-
 -- ---- the definition behind a member
 
 abbrev on_read : {A : Type 0} → Option SignedRead → A → (ℤ → ℕ → A) → A
@@ -164,7 +153,8 @@ gather-more variables lits above l (members ls next) =
     (sym (or_assoc above (ltb variables (size l)) (some_above variables ls)))
 gather-more variables lits above l broken_line = refl
 
-gather_none : (variables : ℕ) (lits : Lits) (above : Bool) (next : ℕ) → gathered variables lits above (members [] next) ≡ Some (record { lits = lits; above = above; next = next })
+gather_none : (variables : ℕ) (lits : Lits) (above : Bool) (next : ℕ)
+    → gathered variables lits above (members [] next) ≡ Some (record { lits = lits; above = above; next = next })
 unfolding lits_of_members some_above
 gather_none variables lits above next = ap₂ (λ (k : Lits) (b : Bool). Some (record { lits = k; above = b; next = next })) (together-none lits) (or-false above)
 
@@ -193,7 +183,8 @@ module _ (variables : ℕ) (lits : Lits) (above : Bool) (s : List ℕ) (at : ℕ
         ap (gathered variables lits above) (behind ∙ go) ∙ by (eqb (get_or s next 0) line_feed)
       where
         by : (b : Bool)
-            → gathered variables lits above (cond b (members [] (next + 1)) broken_line) ≡ cond b (Some (record { lits = lits; above = above; next = next + 1 })) None
+            → gathered variables lits above (cond b (members [] (next + 1)) broken_line)
+            ≡ cond b (Some (record { lits = lits; above = above; next = next + 1 })) None
         by true = gather_none variables lits above (next + 1)
         by false = refl
 
@@ -232,11 +223,12 @@ module _ (variables : ℕ) (s : List ℕ) (at : ℕ) where
     unfolding clause_at bad_members
     clause-is lits above end bad g b = rw e (go (members_from (length s) s next) g)
       where
-        go : (m : MembersRead) → gathered variables no_lits false m ≡ Some (record { lits = lits; above = above; next = end }) → Some (record { weight = w; lits = lits; bad = above || bad; next = end }) ≡ made m
+        go : (m : MembersRead) → gathered variables no_lits false m ≡ Some (record { lits = lits; above = above; next = end })
+            → Some (record { weight = w; lits = lits; bad = above || bad; next = end }) ≡ made m
         go (members ls far) h =
-            let same : together no_lits (lits_of_members ls) ≡ lits = cc in
-            let is : lits_of_members ls ≡ lits = sym (none-together (lits_of_members ls)) ∙ same in
-            let over : some_above variables ls ≡ above = cc in
-            let there : far ≡ end = cc in
+            let same = some-same h in
+            let is : lits_of_members ls ≡ lits = sym (none-together (lits_of_members ls)) ∙ ap (λ (g : Gathered). g.lits) same in
+            let over : some_above variables ls ≡ above = ap (λ (g : Gathered). g.above) same in
+            let there : far ≡ end = ap (λ (g : Gathered). g.next) same in
             rw (b, ← is, ← over, ← there)
         go broken_line h = impossible (cc)

@@ -86,8 +86,7 @@ fn members_from(s: &[u8], from: usize, variables: u64) -> Option<Gathered>
     let mut lits = Lits::none();
     let mut above = false;
     let mut at = from;
-    let mut i = 0;
-    while i < s.len() {
+    for _turn in 0..s.len() {
         let SignedRead {
             size,
             negative,
@@ -99,7 +98,6 @@ fn members_from(s: &[u8], from: usize, variables: u64) -> Option<Gathered>
         lits = with_member(lits, lits_of_signed(size, negative));
         above = above | (variables < size);
         at = next;
-        i += 1;
     }
     None
 }

@@ -1,12 +1,12 @@
 -- What is read behind the header, refused or fine, is what the whole text comes to. Where all is fine there is room for the words, so that
 -- storing them one by one is putting them in front of the rest.
 use Rattle.std.specs.Prelude.{Result, Ok, Err}
-use Prim.Native.Nat.{ℕ, suc, ◌+◌, ◌*◌, ◌<◌, ◌≤◌}
+use Prim.Native.Nat.{ℕ, suc, ◌+◌, ◌*◌, ◌≤◌}
 use mathlib.Core.Path.{◌≡◌, refl, ◌∙◌}
 use mathlib.Core.List.{List}
 use native.Mathlib.Nat.{zero-add}
 use native.Mathlib.Omega.{arith}
-use borrow.Author.Tests.{ltb-false, lt-ltb, le-ltb}
+use borrow.Author.Tests.{ltb-false}
 use lib.Dec.{ltb}
 use lib.ListN.{length}
 use lib.Seq.{sets, sets-eq}
@@ -16,39 +16,20 @@ use Rattle.rules.specs.declared.Refusal.TheVariants.{TooManyVariables, BadTable,
 use Rattle.rules.specs.Refusals.{Judged}
 use Rattle.rules.specs.declared.WcnfRead.{WcnfRead}
 use Rattle.rules.specs.Table.{row_words}
-use Rattle.rules.specs.WcnfReader.{header_of, clauses_why, header_why, wcnf_read_why, clauses_words, wcnf_words, wcnf_read, wcnf_table, file_says}
+use Rattle.rules.specs.WcnfReader.{header_of, header_why, wcnf_read_why, clauses_words, wcnf_words, wcnf_read, wcnf_table, file_says, header_says}
 use Rattle.rules.proofs.Judging.{refuse-fine}
 use Rattle.text_laws.proofs.Matched.{matched}
 use Rattle.wcnf_reader.specs.Behind.{read_behind, stored_behind}
 use Rattle.wcnf_headers.proofs.Heading.{line_small}
 use Rattle.wcnf_reader.proofs.Turns.{words-length}
-use Rattle.rules.specs.WcnfReader.{header_says}
 
--- ---- the header's figures, in order
-
-module _ (most : ℕ) (s : List ℕ) (room n m top next line : ℕ) where
-  abbrev why : Judged
-  why = header_why most s room (Ok (header_says n m top next line))
-
-  pub over-variables : most_variables < n → why ≡ Err TooManyVariables
-  over-variables h = rw (lt-ltb most_variables n h)
-
-  pub over-rows : n ≤ most_variables → most < m → why ≡ Err BadTable
-  over-rows g h = rw (le-ltb most_variables n g, lt-ltb most m h)
-
-  pub over-room : n ≤ most_variables → m ≤ most → room < row_words * m → why ≡ Err NoRoom
-  over-room g h i = rw (le-ltb most_variables n g, le-ltb most m h, lt-ltb room (row_words * m) i)
-
-  pub by-clauses : (j : Judged) → n ≤ most_variables → m ≤ most → row_words * m ≤ room → j ≡ clauses_why m 0 n s next (line + 1) → j ≡ why
-  by-clauses j g h i e = rw (le-ltb most_variables n g, le-ltb most m h, le-ltb room (row_words * m) i) e
-
-  -- where all is fine there is room
-  fits : why ≡ Ok tt → row_words * m ≤ room
-  fits e =
-      let p1 = refuse-fine (ltb most_variables n) TooManyVariables _ e in
-      let p2 = refuse-fine (ltb most m) BadTable _ p1.1 in
-      let p3 = refuse-fine (ltb room (row_words * m)) NoRoom _ p2.1 in
-      ltb-false room (row_words * m) p3.0
+-- where all is fine there is room
+fits : (most : ℕ) (s : List ℕ) (room n m top next line : ℕ) → header_why most s room (Ok (header_says n m top next line)) ≡ Ok tt → row_words * m ≤ room
+fits most s room n m top next line e =
+    let p1 = refuse-fine (ltb most_variables n) TooManyVariables _ e in
+    let p2 = refuse-fine (ltb most m) BadTable _ p1.1 in
+    let p3 = refuse-fine (ltb room (row_words * m)) NoRoom _ p2.1 in
+    ltb-false room (row_words * m) p3.0
 
 -- the header's line is one of the text's
 pub head-line : (s : List ℕ) (n m top next line : ℕ) → header_of s ≡ Ok (header_says n m top next line) → line ≤ length s + 1
@@ -80,10 +61,10 @@ module _ (most : ℕ) (s table : List ℕ) (n m top next line : ℕ) (j : Judged
 -- ---- the whole text
 
 module _ (most : ℕ) (s table : List ℕ) where
-  pub read-broken : (line : ℕ) → header_of s ≡ Err line
-      → (Err (BadText line) ≡ wcnf_read most s (length table)) × (table ≡ wcnf_table most s table)
+  pub read-broken : (told : Result WcnfRead Refusal) → (line : ℕ) × (header_of s ≡ Err line) × (told ≡ Err (BadText line))
+      → (told ≡ wcnf_read most s (length table)) × (table ≡ wcnf_table most s table)
   unfolding wcnf_read wcnf_table wcnf_read_why
-  read-broken line e = (rw e, rw e)
+  read-broken told r = (rw (r.2, r.1), rw r.1)
 
   module _ (n m top next line : ℕ) (h : header_of s ≡ Ok (header_says n m top next line)) where
     answer-is : read_behind most s (length table) n m top next line ≡ wcnf_read most s (length table)
@@ -99,8 +80,8 @@ module _ (most : ℕ) (s table : List ℕ) where
         rw (h, e) (sets-eq words table 0 room ∙ rw (zero-add (length words)))
     words_are (Err r) e = rw (h, e)
 
-    pub behind-read : (answer : Result WcnfRead Refusal) (after : List ℕ)
-        → (answer ≡ read_behind most s (length table) n m top next line) × (after ≡ stored_behind most s table n m top next line)
-        → (answer ≡ wcnf_read most s (length table)) × (after ≡ wcnf_table most s table)
-    behind-read answer after rest =
+    pub behind-read : (told : Result WcnfRead Refusal) (after : List ℕ)
+        → (told ≡ read_behind most s (length table) n m top next line) × (after ≡ stored_behind most s table n m top next line)
+        → (told ≡ wcnf_read most s (length table)) × (after ≡ wcnf_table most s table)
+    behind-read told after rest =
         (rest.0 ∙ answer-is, rest.1 ∙ words_are (header_why most s (length table) (Ok (header_says n m top next line))) refl)

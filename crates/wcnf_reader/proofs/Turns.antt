@@ -1,22 +1,21 @@
 -- The clauses, one at a time: what the judgement and the words come to behind a clause that was read, and behind one that breaks the form.
 use Rattle.std.specs.Prelude.{Option, Some, None, Ok, Err}
 use Prim.Native.Nat.{ℕ, zero, suc, ◌+◌, ◌-◌, ◌*◌, ◌<◌, ◌≤◌}
-use mathlib.Core.Path.{◌≡◌, refl, sym, ap, ◌∙◌}
+use mathlib.Core.Path.{◌≡◌, refl, ap, ◌∙◌}
 use mathlib.Core.Bool.{Bool, true, false}
 use mathlib.Core.List.{List, [], ◌++◌}
 use native.Mathlib.Omega.{arith}
-use borrow.Author.Tests.{le-leb, lt-leb}
 use lib.Dec.{eqb}
 use lib.IntN.{ℤ}
 use lib.ListN.{length, length-append}
 use lib.Seq.{sets}
-use Rattle.masks.proofs.Choice.{impossible}
+use Rattle.masks.proofs.Choice.{impossible, some-same}
 use Rattle.masks.proofs.Words.{sets-append}
 use Rattle.literals.specs.declared.Lits.{Lits}
 use Rattle.rules.specs.declared.Row.{Row}
 use Rattle.rules.specs.declared.Refusal.TheVariants.{BadText, BadLiterals}
 use Rattle.rules.specs.Reader.{number_at, on_number}
-use Rattle.rules.specs.Table.{row_words, new_row, hard_row, row_words_of}
+use Rattle.rules.specs.Table.{row_words, row_words_of}
 use Rattle.rules.specs.WcnfReader.{MembersRead, members, broken_line, members_from, on_members, on_clause, lits_of_members, bad_members}
 use Rattle.rules.specs.WcnfReader.{clauses_why, clause_row, clauses_words}
 use Rattle.text_laws.proofs.RowWords.{row_words_lem}
@@ -37,23 +36,22 @@ pub record Told (variables : ℕ) (s : List ℕ) (at w : ℕ) (lits : Lits) (bad
   pub made : lits_of_members signed ≡ lits
   pub judged : bad_members variables signed ≡ bad
 
-pub told : (variables : ℕ) (s : List ℕ) (at w : ℕ) (lits : Lits) (bad : Bool) (next : ℕ) → clause_at variables s at ≡ Some (record { weight = w; lits = lits; bad = bad; next = next })
-    → Told variables s at w lits bad next
+pub told : (variables : ℕ) (s : List ℕ) (at w : ℕ) (lits : Lits) (bad : Bool) (next : ℕ)
+    → clause_at variables s at ≡ Some (record { weight = w; lits = lits; bad = bad; next = next }) → Told variables s at w lits bad next
 unfolding clause_at
 told variables s at w lits bad next e = weight (number_at s at) refl e
   where
     signs : (v mid : ℕ) → number_at s at ≡ Some (v, mid) → (r : MembersRead) → members_from (length s) s mid ≡ r
         → behind variables v r ≡ Some (record { weight = w; lits = lits; bad = bad; next = next }) → Told variables s at w lits bad next
     signs v mid n (members ls end) m h =
-        let weighs : v ≡ w = cc in
-        let there : end ≡ next = cc in
+        let same = some-same h in
         record {
           middle = mid;
           signed = ls;
-          number = n ∙ ap (λ (x : ℕ). Some (x, mid)) weighs;
-          read = m ∙ ap (members ls) there;
-          made = cc;
-          judged = cc;
+          number = n ∙ ap (λ (c : ClauseRead). Some (c.weight, mid)) same;
+          read = m ∙ ap (λ (c : ClauseRead). members ls c.next) same;
+          made = ap (λ (c : ClauseRead). c.lits) same;
+          judged = ap (λ (c : ClauseRead). c.bad) same;
         }
     signs v mid n broken_line m h = impossible (cc)
 
@@ -85,7 +83,8 @@ module _ (k i variables : ℕ) (s : List ℕ) (at line : ℕ) where
   unfolding clauses_why
   why-broken e = broken-clause variables s at (Err (BadText line)) _ e
 
-  module _ (w : ℕ) (lits : Lits) (bad : Bool) (next : ℕ) (e : clause_at variables s at ≡ Some (record { weight = w; lits = lits; bad = bad; next = next })) where
+  module _ (w : ℕ) (lits : Lits) (bad : Bool) (next : ℕ)
+      (e : clause_at variables s at ≡ Some (record { weight = w; lits = lits; bad = bad; next = next })) where
     pub why-bad : bad ≡ true → clauses_why (suc k) i variables s at line ≡ Err (BadLiterals i)
     unfolding clauses_why
     why-bad b = let t = told variables s at w lits bad next e in rw (t.number, t.read, t.judged, b)
@@ -104,15 +103,6 @@ module _ (i variables : ℕ) (s : List ℕ) (at line : ℕ) where
   unfolding clauses_why
   why-surplus e = rw e
 
--- ---- a clause's row
-
-module _ (top w : ℕ) (lits : Lits) where
-  pub row-hard : top ≤ w → clause_row top w lits ≡ hard_row lits
-  row-hard h = rw (le-leb top w h)
-
-  pub row-soft : w < top → clause_row top w lits ≡ new_row lits w
-  row-soft h = rw (lt-leb top w h)
-
 -- ---- the words
 
 module _ (k variables top : ℕ) (s : List ℕ) (at : ℕ) where
@@ -120,7 +110,8 @@ module _ (k variables top : ℕ) (s : List ℕ) (at : ℕ) where
   unfolding clauses_words
   words-broken e = broken-clause variables s at [] _ e
 
-  pub words-next : (w : ℕ) (lits : Lits) (bad : Bool) (next : ℕ) → clause_at variables s at ≡ Some (record { weight = w; lits = lits; bad = bad; next = next })
+  pub words-next : (w : ℕ) (lits : Lits) (bad : Bool) (next : ℕ)
+      → clause_at variables s at ≡ Some (record { weight = w; lits = lits; bad = bad; next = next })
       → clauses_words (suc k) top s at ≡ row_words_of (clause_row top w lits) ++ clauses_words k top s next
   unfolding clauses_words
   words-next w lits bad next e = let t = told variables s at w lits bad next e in rw (t.number, t.read, t.made)
@@ -137,8 +128,8 @@ module _ (top : ℕ) (s : List ℕ) (m i at : ℕ) (table : List ℕ) where
       let left : m - i ≡ suc (m - (i + 1)) = omega arith in
       rw (left, words-broken (m - (i + 1)) variables top s at e)
 
-  pub left-stored : (variables w : ℕ) (lits : Lits) (bad : Bool) (next : ℕ) (row : Row) → i < m → clause_at variables s at ≡ Some (record { weight = w; lits = lits; bad = bad; next = next })
-      → row ≡ clause_row top w lits
+  pub left-stored : (variables w : ℕ) (lits : Lits) (bad : Bool) (next : ℕ) (row : Row) → i < m
+      → clause_at variables s at ≡ Some (record { weight = w; lits = lits; bad = bad; next = next }) → row ≡ clause_row top w lits
       → sets (sets table (row_words * i) (row_words_of row)) (row_words * (i + 1)) (clauses_words (m - (i + 1)) top s next)
       ≡ sets table (row_words * i) (clauses_words (m - i) top s at)
   left-stored variables w lits bad next row h e r =

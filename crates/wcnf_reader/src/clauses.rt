@@ -16,19 +16,23 @@ fn ends(s: &[u8], at: usize) -> bool
 }
 
 // The clauses, of which the first is on this line, and that nothing follows them: line by line 20, 5.
-fn clauses_why(s: &[u8], from: usize, clauses: u64, variables: u64, first: u64) -> Result<(), Refusal>
+fn clauses_why(
+    s: &[u8],
+    from: usize,
+    clauses: u64,
+    variables: u64,
+    first: u64,
+) -> Result<(), Refusal>
     requires { (clauses ≤ most_rows) × (first ≤ length s.now + 2) }
     ensures { result ≡ clauses_why clauses 0 variables s.now from first }
 {
     let mut at = from;
-    let mut i = 0;
-    while i < clauses {
+    for i in 0..clauses {
         let clause = wcnf_pieces::clause_at(s, at, variables).ok_or(Refusal::BadText(first + i))?;
         if clause.bad {
             return Err(Refusal::BadLiterals(i));
         }
         at = clause.next;
-        i += 1;
     }
     if ends(s, at) {
         return Ok(());
@@ -80,20 +84,20 @@ pub fn store_rows(s: &[u8], from: usize, rows: usize, top: u64, table: &mut [u64
     ensures { table.new ≡ sets table.old 0 (clauses_words rows top s.now from) }
 {
     let mut at = from;
-    let mut i = 0;
-    while i < rows {
-        let Some(ClauseRead {
-            weight,
-            lits,
-            bad: _,
-            next,
-        }) = wcnf_pieces::clause_at(s, at, Literal::MOST)
+    for i in 0..rows {
+        let Some(
+            ClauseRead {
+                weight,
+                lits,
+                bad: _,
+                next,
+            },
+        ) = wcnf_pieces::clause_at(s, at, Literal::MOST)
         else {
             return;
         };
         let row = clause_row(top, weight, lits);
         words::inner::set_row_in(table, Row::WORDS * i, row);
         at = next;
-        i += 1;
     }
 }

@@ -38,11 +38,9 @@ pub fn put_clauses(out: &mut [u8], at: usize, top: u64, table: &[u64], m: usize)
     ensures { Stored out.old at (clauses_text top table.now m) result out.new }
 {
     let mut next = at;
-    let mut i = 0;
-    while i < m {
+    for i in 0..m {
         let row = words::inner::row_in(table, Row::WORDS * i);
         next = put_clause(out, next, top, row);
-        i += 1;
     }
     next
 }

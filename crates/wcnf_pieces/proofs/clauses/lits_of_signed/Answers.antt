@@ -29,13 +29,13 @@ returns-in_default c =
 pub returns-then-negative : goal.returns-then-negative
 returns-then-negative c =
     let small : SFits w64 (pos c.args.size) = record { sfits = omega (arith, c.if-size-gt-MOST.false) } in
-    let fine = matched (c.new.ensures ∙ ap offered (back _ small)) c.in-Fine.is in
+    let fine = matched (c.new.ensures ∙ ap offered (back _ small)) c.in-Some.is in
     turned-literal c.args.size _ fine _ c.negated.ensures _ c.lits.ensures
     ∙ ap (λ (b : Bool). lits_of (of_sign b c.args.size)) (sym c.if-negative.true)
 
 pub returns : goal.returns
 returns c =
     let small : SFits w64 (pos c.args.size) = record { sfits = omega (arith, c.if-size-gt-MOST.false) } in
-    let fine = matched (c.new.ensures ∙ ap offered (back _ small)) c.in-Fine.is in
+    let fine = matched (c.new.ensures ∙ ap offered (back _ small)) c.in-Some.is in
     plain-literal c.args.size _ fine _ c.lits-2.ensures
     ∙ ap (λ (b : Bool). lits_of (of_sign b c.args.size)) (sym c.if-negative.false)

@@ -1,5 +1,5 @@
 -- `members_from` meets its contract: what is left of the clause, gathered behind what was, comes to what the whole clause does.
-use Prim.Native.Nat.{◌-◌, ◌≤◌}
+use Prim.Native.Nat.{◌-◌}
 use mathlib.Core.Path.{◌≡◌}
 use mathlib.Core.Bool.{false}
 use lib.ListN.{length}
@@ -8,9 +8,7 @@ use Rattle.rules.specs.WcnfReader.{members_from}
 use Rattle.wcnf_pieces.specs.Clauses.{gathered}
 use Rattle.wcnf_pieces.proofs.clauses.members_from.Given as goal
 
-abbrev pub invariant-loop-i : goal.invariant-loop-i
-invariant-loop-i l =
-    (l.i ≤ length l.s) × (gathered l.variables l.lits l.above (members_from (length l.s - l.i) l.s l.at) ≡ gathered l.variables no_lits false (members_from (length l.s) l.s l.from))
-
-abbrev pub decreases-loop-i : goal.decreases-loop-i
-decreases-loop-i l = length l.s - l.i
+abbrev pub invariant-loop-turn : goal.invariant-loop-turn
+invariant-loop-turn l =
+    gathered l.variables l.lits l.above (members_from (length l.s - l._turn) l.s l.at)
+    ≡ gathered l.variables no_lits false (members_from (length l.s) l.s l.from)

@@ -1,5 +1,5 @@
 -- `store_rows` meets its contract: the words of the clauses that are left, stored behind those that are, are all the words stored.
-use Prim.Native.Nat.{◌-◌, ◌*◌, ◌≤◌}
+use Prim.Native.Nat.{◌-◌, ◌*◌}
 use mathlib.Core.Path.{◌≡◌}
 use lib.ListN.{length}
 use lib.Seq.{sets}
@@ -9,9 +9,5 @@ use Rattle.wcnf_reader.proofs.clauses.store_rows.Given as goal
 
 abbrev pub invariant-loop-i : goal.invariant-loop-i
 invariant-loop-i l =
-    (l.i ≤ l.rows)
-    × (length l.table ≡ length l.initial.table)
+    (length l.table ≡ length l.initial.table)
     × (sets l.table (row_words * l.i) (clauses_words (l.rows - l.i) l.top l.s l.at) ≡ sets l.initial.table 0 (clauses_words l.rows l.top l.s l.from))
-
-abbrev pub decreases-loop-i : goal.decreases-loop-i
-decreases-loop-i l = l.rows - l.i

@@ -3,15 +3,15 @@ use native.Mathlib.Omega.{arith}
 use Rattle.text_laws.specs.Keys.{vars_key, budget_key}
 use Rattle.text_laws.proofs.Pieces.{line-length}
 use Rattle.pieces_written.proofs.Storing.{stored-both}
-use Rattle.writer.proofs.put_head.Goals as goal
+use Rattle.writer.proofs.texts.TableText.put_head.Goals as goal
 
 pub put_number_line-third-requires : goal.put_number_line-third-requires
-put_number_line-third-requires c = omega (arith, c.put_number_line-second.ensures.place, line-length vars_key c.args.variables)
+put_number_line-third-requires c = omega (arith, c.put_number_line-second.ensures.place, line-length vars_key c.args.self.now.variables)
 
 pub put_number_line-requires : goal.put_number_line-requires
 put_number_line-requires c =
-    let one = line-length vars_key c.args.variables in
-    let two = line-length budget_key c.args.budget in
+    let one = line-length vars_key c.args.self.now.variables in
+    let two = line-length budget_key c.args.self.now.budget in
     omega (arith, c.put_number_line-third.ensures.place, c.put_number_line-second.ensures.place)
 
 pub returns : goal.returns
