@@ -24,11 +24,13 @@ fn again(input: &[u8], output: &mut [u8]) -> usize
     ensures bytes { output.new ≡ copy_out input.now output.old }
 {
     let mut table = [0u64; TABLE];
-    let Ok(TextRead {
-        variables,
-        budget,
-        rows,
-    }) = reader::read(input, &mut table)
+    let Ok(
+        TextRead {
+            variables,
+            budget,
+            rows,
+        },
+    ) = reader::read(input, &mut table)
     else {
         return 0;
     };

@@ -29,10 +29,7 @@ pub fn is_digit(b: u8) -> bool
 pub fn stands(s: &[u8], at: usize, key: &[u8]) -> bool
     ensures { result ≡ stands s.now at key.now }
 {
-    for i in 0..key.len() {
-        if byte_past(s, at, i) != key[i] {
-            return false;
-        }
-    }
-    true
+    key.iter()
+        .enumerate()
+        .all(|(i, b)| byte_past(s, at, i) == *b)
 }

@@ -7,8 +7,8 @@ ghost use Rattle.rules.specs.Reader.{lits_line, mark_line, row_at, rows_at, rest
 ghost use Rattle.text_laws.specs.Ends.{unbroken};
 ghost use Rattle.reader.specs.Ends.{end_of};
 
-use pieces_read::inner;
 use literals::Lits;
+use pieces_read::inner;
 use rules::{Refusal, Row};
 
 // The line on which the rows begin, and the lines of a row.

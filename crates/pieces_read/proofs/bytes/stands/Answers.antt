@@ -1,22 +1,42 @@
-use mathlib.Core.Path.{◌∙◌}
-use native.Mathlib.Nat.{add-zero}
+-- `stands` meets its contract: each byte of the key is the one that stands at its place.
+use Rattle.std.specs.Bool.{MatchBool}
+use Rattle.std.specs.List.{enumerate_from, AllWithin, HoldsAt}
+use Prim.Native.Nat.{ℕ, ◌+◌, ◌<◌}
+use mathlib.Core.Path.{◌≡◌, sym, subst, ◌∙◌}
+use mathlib.Core.Bool.{Bool, true, false}
+use mathlib.Core.List.{List}
 use native.Mathlib.Omega.{arith}
-use Rattle.text_laws.proofs.Matched.{matched, unmatched}
-use Rattle.text_laws.proofs.Stands.{stands-more, stands-less, stands-end}
+use native.Mathlib.Nat.{zero-add}
+use borrow.Author.Rules.{rules}
+use borrow.Author.Tests.{tests}
+use lib.ListN.{length, get_or}
+use Rattle.std.proofs.lemmas.Iterator.{YieldsList-from_slice, cases_from_all}
+use Rattle.std.proofs.lemmas.Iterator.Consumers.{YieldsList-from_enumerate}
+use Rattle.std.proofs.lemmas.List.FromFn.{get_or-enumerate_from, length-enumerate_from}
+use Rattle.masks.proofs.Choice.{not_so}
+use Rattle.rules.specs.Reader.{stands}
+use Rattle.text_laws.proofs.Stands.{stands_of, stands_at}
 use Rattle.pieces_read.proofs.bytes.stands.Goals as goal
 
-pub loop-i-init : goal.loop-i-init
-loop-i-init c = rw add-zero
+abbrev There : List ℕ → ℕ → ℕ × ℕ → Type 0
+There s at p = get_or s (at + p.0) 0 ≡ p.1
 
-pub returns-then-byte_past-key : goal.returns-then-byte_past-key
-returns-then-byte_past-key c =
-    let other = unmatched c.byte_past.ensures c.if-byte_past-key.true in
-    matched (stands-less c.args.s.now c.args.at c.loop-i.i c.args.key.now (omega arith) other) c.loop-i.invariant
+numbered : (key : List ℕ) (k : ℕ) → k < length key → ◌≡◌ {A = ℕ × ℕ} (get_or (enumerate_from 0 key) k (0, 0)) (k, get_or key k 0)
+numbered key k l = get_or-enumerate_from 0 key k (0, 0) l ∙ rw (zero-add k)
 
-pub loop-i-preserved : goal.loop-i-preserved
-loop-i-preserved c =
-    let same = matched c.byte_past.ensures c.if-byte_past-key.false in
-    stands-more c.args.s.now c.args.at c.loop-i.i c.args.key.now (omega arith) same ∙ c.loop-i.invariant
+each : (s : List ℕ) (at : ℕ) (key : List ℕ) (r : Bool)
+    → MatchBool r (AllWithin (There s at) (enumerate_from 0 key) 0 (length (enumerate_from 0 key)))
+    ((k : ℕ) × (k < length (enumerate_from 0 key)) × HoldsAt (λ p. There s at p → ⊥) (enumerate_from 0 key) k)
+    → r ≡ stands s at key
+each s at key true h =
+    sym (stands_of s at key (λ k l. subst (There s at) (numbered key k l) (h k (0, 0) (omega arith) (rw (length-enumerate_from 0 key) l))))
+each s at key false (k, l, h) =
+    let inside : k < length key = rw (length-enumerate_from 0 key) at l in
+    sym (not_so (λ t. subst (λ p. There s at p → ⊥) (numbered key k inside) (h (0, 0)) (stands_at s at key t k inside)))
 
 pub returns : goal.returns
-returns c = matched (stands-end c.args.s.now c.args.at c.loop-i.i c.args.key.now (omega arith)) c.loop-i.invariant
+returns c =
+    each c.args.s.now c.args.at c.args.key.now _
+    (cases_from_all _ _ _ (There c.args.s.now c.args.at) (λ p. There c.args.s.now c.args.at p → ⊥) c.all.ensures.ran
+    (YieldsList-from_enumerate (YieldsList-from_slice c.args.key.now (cc)) (cc))
+    (λ x q k. search (rules, tests)) (λ x q k. search (rules, tests)))
