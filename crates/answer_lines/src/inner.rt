@@ -1,10 +1,10 @@
 // Each line where the one before it ends. A variable that is counted has a bit in a reading.
 ghost use Rattle.std.specs.Prelude.{◌+◌, ◌≤◌, ◌^◌};
+ghost use Rattle.std.specs.Result.{ForOk};
 ghost use Rattle.literals.specs.Literal.{most_variables};
 ghost use Rattle.rules.specs.Text.{line};
 ghost use Rattle.rules.specs.Program.{refusal_text, status_text, weight_text, losses_text, found_text, outcome_text};
 ghost use Rattle.pieces_written.specs.Stored.{Stored};
-ghost use Rattle.readings.specs.Line.{Counted};
 ghost use Rattle.answer_lines.specs.Lengths.{most_weight_line, most_losses_lines};
 
 use pieces_written::inner;
@@ -70,7 +70,7 @@ fn put_found(out: &mut [u8], variables: u64, root: Losses, found: Found) -> usiz
 
 // What an input came to.
 pub fn put_outcome(out: &mut [u8], outcome: Result<Outcome, Refusal>) -> usize
-    requires { Counted outcome }
+    requires { ForOk outcome (λ o. o.variables ≤ most_variables) }
     ensures { Stored out.old 0 (outcome_text outcome) result out.new }
 {
     match outcome {

@@ -2,3 +2,6 @@
 #![tactic(auto)]
 
 pub mod inner;
+mod texts;
+
+pub use texts::AnswerText;

@@ -46,7 +46,7 @@ pub extern "C" fn olikumpasho_search(
     ensures lent { found.new ≡ found_out (searched desk.now (choice_of choice) budget) found.old }
 {
     match walk::search(desk, choice_of(choice), budget) {
-        Err(r) => tell(Err(r)),
+        Err(why) => tell(Err(why)),
         Ok(f) => {
             *found = found_words(f);
             0

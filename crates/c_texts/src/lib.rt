@@ -18,7 +18,7 @@ pub extern "C" fn olikumpasho_read(text: &[u8], table: &mut [u64], head: &mut [u
     ensures lent { head.new ≡ head_out (text_read most_rows text.now (length table.old)) head.old }
 {
     match reader::read(text, table) {
-        Err(r) => tell(Err(r)),
+        Err(broken) => tell(Err(broken)),
         Ok(TextRead {
             variables,
             budget,

@@ -1,5 +1,6 @@
 -- The copy by case, and what it comes to. A text that is read is what the writer spells of its table: there is no other spelling.
 use Rattle.std.specs.Prelude.{Result, Ok, Err}
+use Rattle.std.specs.Result.{result_unwrap_or}
 use Prim.Native.Nat.{ℕ, ◌*◌}
 use mathlib.Core.Path.{◌≡◌, refl, subst, sym}
 use mathlib.Core.List.{List}
@@ -24,6 +25,11 @@ module _ (input out : List ℕ) where
       → (length_of (written n b table out) ≡ copy_length input out) × (write_out n b table out ≡ copy_out input out)
   unfolding copy_length copy_out
   read n b m table h words = (rw (h, words), rw (h, words))
+
+-- how many bytes were written, none where it was refused
+pub length-or-none : (r : Result ℕ Refusal) → result_unwrap_or r 0 ≡ length_of r
+length-or-none (Ok n) = refl
+length-or-none (Err r) = refl
 
 nothing : (input output : List ℕ) → Copied input 0 output
 nothing input output = record { within = omega arith; same = λ no. absurd (no refl) }

@@ -1,20 +1,16 @@
--- Where a `?` leaves: for want of a line, with its number, or with what a call was refused with; and what the call gave whose refusal was
--- made a refusal of the text.
+-- Where a `?` leaves for want of a line: with the number of the line. And what a call gave, of which the line that breaks the form was made a
+-- refusal of the text.
 use Rattle.std.specs.Prelude.{ℕ, Option, None, Result, Ok, Err}
 use Rattle.std.specs.Option.{ok_or}
 use Rattle.std.specs.Result.{IsErrAnd, MatchResult}
-use Rattle.std.proofs.lemmas.Result.{err_from_is_err_and}
 use mathlib.Core.Path.{◌≡◌, refl, sym, ap, ◌∙◌}
-use Rattle.masks.proofs.Choice.{impossible, ok-same}
+use Rattle.masks.proofs.Choice.{impossible, ok-same, handed-on}
 use Rattle.rules.specs.declared.Refusal.{Refusal}
 use Rattle.rules.specs.declared.Refusal.TheVariants.{BadText}
 
-pub same_err : {S E : Type 0} {e : E} (r : Result S E) → IsErrAnd r (λ y. y ≡ e) → r ≡ Err e
-same_err r h = let out = err_from_is_err_and r h in out.1 ∙ ap Err out.2
-
 pub no_line : {T S E : Type 0} {o : Option T} {why e : E} (r : Result S E) → IsErrAnd r (λ y. y ≡ e) → ◌≡◌ {A = Result T E} (Err e) (ok_or o why) → o ≡ None
     → r ≡ Err why
-no_line {why = why} r h value none = same_err r h ∙ cc
+no_line {why = why} {e = e} r h value none = handed-on r e h ∙ cc
 
 pub text-fine : {T : Type 0} {x : T} (r : Result T ℕ)
     → MatchResult r (λ y. ◌≡◌ {A = Result T Refusal} (Ok x) (Ok y)) (λ e. IsErrAnd {T = T} {E = Refusal} (Ok x) (λ d. d ≡ BadText e)) → r ≡ Ok x

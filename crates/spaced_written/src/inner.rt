@@ -14,10 +14,8 @@ pub fn put_spaced_lits(out: &mut [u8], at: usize, n: u64, l: Lits) -> usize
     ensures { Stored out.old at (spaced_lits 0 n l) result out.new }
 {
     let mut next = at;
-    let mut v = 0;
-    while v < n {
+    for v in 0..n {
         next = put_literal(out, next, false, v, l);
-        v += 1;
     }
     next
 }

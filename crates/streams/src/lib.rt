@@ -35,6 +35,7 @@ pub fn read_full<R: Read>(input: &mut R, buffer: &mut [u8]) -> usize
     ensures bytes { Consumes (R.remaining input.old) (R.remaining input.new) (take result buffer.new) }
 {
     let mut done = 0;
+    // A turn moves on by as many bytes as it read, so that no range has its places.
     while done < buffer.len() {
         let n = read_some(input, &mut buffer[done..]);
         if n == 0 {
@@ -52,13 +53,14 @@ fn drop_some<R: Read>(input: &mut R) -> bool {
 }
 
 // Whoever writes into a pipe expects it to be read to its end, also past the n bytes that were kept. A loop has to end and an input need
-// not, so that the turns are counted down, from a number that no input uses up.
+// not, so that the turns are counted, up to a number that no input uses up.
 pub fn drop_rest<R: Read>(input: &mut R, n: usize) {
     if n < KEPT {
         return;
     }
-    let mut turns = u64::MAX;
-    while turns > 0 && drop_some(input) {
-        turns -= 1;
+    for _ in 0..u64::MAX {
+        if !drop_some(input) {
+            return;
+        }
     }
 }

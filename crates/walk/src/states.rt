@@ -13,12 +13,8 @@ fn weight_on(desk: &[u64]) -> u64
     ensures { result ≡ weight_on desk.now }
 {
     let n = rules::word(desk, Desk::IN_USE) as usize;
-    let mut weight = rules::word(desk, Desk::CONCEDED);
-    for i in 0..n {
-        let row = row_on(desk, i);
-        weight += row.weight;
-    }
-    weight
+    let weight: u64 = (0..n).map(|i| row_on(desk, i).weight).sum();
+    rules::word(desk, Desk::CONCEDED) + weight
 }
 
 // No reading yet, and a weight to stay below that every reading is below.

@@ -5,23 +5,19 @@
 ghost use Rattle.std.specs.Prelude.{◌≡◌};
 ghost use Rattle.rules.specs.WcnfProgram.{wcnf_answered, wcnf_answer_out};
 
+use pieces_written::store;
 use rules::Refusal;
-use wcnf_lines::inner;
+use wcnf_lines::WcnfAnswerText;
 
 mod inputs;
 
-// How many bytes the answer to the input has, which then stand at the front of those lent; or 4, and they are as they were. The first
-// run over the lines writes nowhere and tells how long they are.
+// How many bytes the answer to the input has, which then stand at the front of those lent; or 4, and they are as they were.
 pub fn answer_wcnf(input: &[u8], output: &mut [u8]) -> Result<usize, Refusal>
     ensures answer { result ≡ wcnf_answered input.now output.old }
     ensures bytes { output.new ≡ wcnf_answer_out input.now output.old }
 {
-    let outcome = inputs::outcome_of(input);
-    let mut nowhere = [0u8; 1];
-    let n = inner::put_outcome(&mut nowhere, outcome);
-    if output.len() < n {
-        return Err(Refusal::NoRoom);
-    }
-    inner::put_outcome(output, outcome);
-    Ok(n)
+    let text = WcnfAnswerText {
+        outcome: inputs::outcome_of(input),
+    };
+    store(&text, output)
 }

@@ -1,9 +1,9 @@
 // Each line where the one before it ends. A variable that is counted has a bit in a reading.
 ghost use Rattle.std.specs.Prelude.{◌+◌, ◌≤◌, ◌^◌};
+ghost use Rattle.std.specs.Result.{ForOk};
 ghost use Rattle.literals.specs.Literal.{most_variables};
 ghost use Rattle.rules.specs.WcnfProgram.{statement_text, wcnf_refusal_text, best_weight_text, values_text, wcnf_found_text, wcnf_outcome_text};
 ghost use Rattle.pieces_written.specs.Stored.{Stored};
-ghost use Rattle.readings.specs.Line.{Counted};
 ghost use Rattle.wcnf_lines.specs.Lengths.{most_weight_line, most_statement_line, most_values_line};
 
 use pieces_written::inner;
@@ -74,7 +74,7 @@ fn put_found(out: &mut [u8], variables: u64, found: Found) -> usize
 
 // What an input came to.
 pub fn put_outcome(out: &mut [u8], outcome: Result<Outcome, Refusal>) -> usize
-    requires { Counted outcome }
+    requires { ForOk outcome (λ o. o.variables ≤ most_variables) }
     ensures { Stored out.old 0 (wcnf_outcome_text outcome) result out.new }
 {
     match outcome {

@@ -28,11 +28,9 @@ pub fn put_rows(out: &mut [u8], at: usize, table: &[u64], m: usize) -> usize
     ensures { Stored out.old at (rows_text table.now m) result out.new }
 {
     let mut next = at;
-    let mut i = 0;
-    while i < m {
+    for i in 0..m {
         let row = words::inner::row_in(table, Row::WORDS * i);
         next = put_row(out, next, row);
-        i += 1;
     }
     next
 }

@@ -1,10 +1,8 @@
 -- `put_outcome` meets its contract: the lines of the case.
-use mathlib.Core.Path.{subst}
-use Rattle.readings.specs.Line.{Counted}
 use Rattle.answer_lines.proofs.inner.put_outcome.Goals as goal
 
 pub put_found-requires : goal.put_found-requires
-put_found-requires c = (subst Counted c.in-Ok.is c.requires).0
+put_found-requires c = c.requires _ c.in-Ok.is
 
 pub returns-in-Err : goal.returns-in-Err
 returns-in-Err c = rw c.in-Err.is c.put_refusal.ensures

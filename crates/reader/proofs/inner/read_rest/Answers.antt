@@ -1,6 +1,6 @@
 -- `read_rest` meets its contract: refused by what follows the head, or fine and stored.
 use mathlib.Core.Path.{◌∙◌}
-use Rattle.reader.proofs.Exits.{same_err}
+use Rattle.masks.proofs.Choice.{handed-on}
 use Rattle.reader.proofs.Rest.{behind-refused, behind-fine, behind-stored}
 use Rattle.reader.proofs.inner.read_rest.Goals as goal
 
@@ -14,7 +14,7 @@ returns-in_err-head_why c =
     let told =
     behind-refused c.args.most c.args.s.now c.args.table.now c.args.variables c.args.budget c.args.rows c.args.from _
     c.head_why.ensures _ c.in_err-head_why.was
-    in record { answer = same_err _ c.from_residual.ensures.1 ∙ told.0; words = told.1 }
+    in record { answer = handed-on _ _ c.from_residual.ensures.1 ∙ told.0; words = told.1 }
 
 pub returns : goal.returns
 returns c =

@@ -3,7 +3,8 @@ use Rattle.std.specs.Prelude.{Err}
 use mathlib.Core.Path.{ap, ◌∙◌}
 use Rattle.text_laws.proofs.Matched.{matched}
 use Rattle.text_laws.proofs.Reading.{read-broken}
-use Rattle.reader.proofs.Exits.{same_err, text-fine, text-broken}
+use Rattle.masks.proofs.Choice.{handed-on}
+use Rattle.reader.proofs.Exits.{text-fine, text-broken}
 use Rattle.reader.proofs.Rest.{behind-read}
 use Rattle.reader.proofs.inner.read_up_to.Goals as goal
 
@@ -11,7 +12,7 @@ pub returns-in_err-variables : goal.returns-in_err-variables
 returns-in_err-variables c =
     let broken = text-broken _ c.in_err-variables.ensures.cases in
     let told = read-broken c.args.most c.args.s.now c.args.table.now _ (matched c.head_at.ensures broken.1) in
-    record { answer = same_err _ c.from_residual.ensures.1 ∙ ap Err broken.2 ∙ told.0; words = told.1 }
+    record { answer = handed-on _ _ c.from_residual.ensures.1 ∙ ap Err broken.2 ∙ told.0; words = told.1 }
 
 pub returns : goal.returns
 returns c =

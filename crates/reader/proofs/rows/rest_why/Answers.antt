@@ -3,7 +3,8 @@ use mathlib.Core.Path.{sym, ap, ◌∙◌}
 use Rattle.std.specs.Prelude.{Err}
 use Rattle.rules.specs.Reader.{first_row_line, rows_at}
 use Rattle.text_laws.proofs.Matched.{matched}
-use Rattle.reader.proofs.Exits.{same_err, text-fine, text-broken}
+use Rattle.masks.proofs.Choice.{handed-on}
+use Rattle.reader.proofs.Exits.{text-fine, text-broken}
 use Rattle.reader.proofs.Ends.{rest-broken, rest_ended, rest-surplus}
 use Rattle.reader.proofs.rows.rest_why.Goals as goal
 
@@ -11,7 +12,7 @@ pub returns-in_err-at : goal.returns-in_err-at
 returns-in_err-at c =
     let broken = text-broken _ c.in_err-at.ensures.cases in
     let end = matched c.rows_end.ensures broken.1 in
-    same_err _ c.from_residual.ensures.1 ∙ ap Err broken.2
+    handed-on _ _ c.from_residual.ensures.1 ∙ ap Err broken.2
     ∙ sym (rest-broken c.args.s.now c.args.rows (rows_at c.args.rows c.args.s.now c.args.from first_row_line) _ end)
 
 pub returns-then-at-s : goal.returns-then-at-s

@@ -1,38 +1,55 @@
-use Prim.Native.Nat.{ℕ, ◌+◌, ◌≤◌}
+-- `weight_on` meets its contract: the sum is over the rows in use.
+use Prim.Native.Nat.{ℕ, ◌+◌, ◌<◌, ◌≤◌, ◌^◌}
 use mathlib.Core.Path.{◌≡◌, ◌∙◌, ap}
 use mathlib.Core.List.{List}
+use native.Mathlib.Nat.{zero-add}
 use native.Mathlib.Omega.{arith}
+use Rattle.std.proofs.Common.{rules}
+use Rattle.std.proofs.lemmas.Iterator.{YieldsList-from_range, YieldsList-from_map}
+use Rattle.std.proofs.lemmas.Iterator.Consumers.{sum_by_from_yields_List, fits_by_from_yields_list}
+use Rattle.std.specs.List.{range_with_len, sum_by}
 use Rattle.masks.specs.Sums.{sum}
-use Rattle.masks.proofs.Sums.{sum-empty, sum_more, sum_mono}
-use Rattle.rules.specs.declared.Row.{Row}
+use Rattle.masks.proofs.Sums.{sum-from_range, sum-ext}
 use Rattle.rules.specs.Table.{most_weight}
 use Rattle.rules.specs.Desk.{in_use, conceded, row_on, weight_on}
 use Rattle.desk_laws.specs.Readable.{Readable}
 use Rattle.walk.proofs.states.weight_on.Goals as goal
 
--- the rows passed, and the next
-fits : (d : List ℕ) → Readable d → (i : ℕ) → i + 1 ≤ in_use d → conceded d + sum (i + 1) (λ k. (row_on d k).weight) ≤ most_weight
+-- the weight of row i
+abbrev each : List ℕ → ℕ → ℕ
+each desk i = (row_on desk i).weight
+
+-- summed over the rows in use
+total : (desk : List ℕ) (n : ℕ) → n ≡ in_use desk → sum_by (each desk) (range_with_len 0 n) ≡ sum (in_use desk) (each desk)
+total desk n e = sum-from_range 0 n (each desk) ∙ sum-ext n (λ i l. ap (each desk) (zero-add i)) ∙ ap (λ (k : ℕ). sum k (each desk)) e
+
+most : (desk : List ℕ) → Readable desk → conceded desk + sum (in_use desk) (each desk) ≤ most_weight
 unfolding weight_on
-fits d r i h = omega (arith, r.weights, sum_mono (i + 1) (in_use d) (λ k. (row_on d k).weight) h)
+most desk r = r.weights
 
-pub loop-i-init : goal.loop-i-init
-loop-i-init c = omega (arith, c.word-weight.ensures, sum-empty (λ k. (row_on c.args.desk.now k).weight))
+pub sum-weight-requires-clause-fits : goal.sum-weight-requires-clause-fits
+sum-weight-requires-clause-fits c =
+    let n = c.word-n.result in
+    let fits : sum_by (each c.args.desk.now) (range_with_len 0 n) < 2 ^ 64 =
+    omega (arith, total c.args.desk.now n c.word-n.ensures, most c.args.desk.now c.requires) in
+    fits_by_from_yields_list (each c.args.desk.now) (range_with_len 0 n) c.map.result _
+    (YieldsList-from_map _ (each c.args.desk.now) (YieldsList-from_range 0 n n c.map.ensures.source (omega arith)) c.map.ensures.closure (λ x r q k. search rules)) fits
 
-pub row_on-row-requires : goal.row_on-row-requires
-row_on-row-requires c = omega (arith, c.requires.rows, c.word-n.ensures)
-
-pub overflow_add-weight : goal.overflow_add-weight
-overflow_add-weight c =
-    let gave : c.row_on-row.result.weight ≡ (row_on c.args.desk.now c.loop-i.i).weight = ap (λ (r : Row). r.weight) c.row_on-row.ensures in
-    omega (arith, gave, sum_more c.loop-i.i (λ k. (row_on c.args.desk.now k).weight), fits c.args.desk.now c.requires c.loop-i.i (omega (arith, c.word-n.ensures)))
-
-pub loop-i-preserved : goal.loop-i-preserved
-loop-i-preserved c =
-    let gave : c.row_on-row.result.weight ≡ (row_on c.args.desk.now c.loop-i.i).weight = ap (λ (r : Row). r.weight) c.row_on-row.ensures in
-    omega (arith, gave, sum_more c.loop-i.i (λ k. (row_on c.args.desk.now k).weight))
+pub overflow_add-result : goal.overflow_add-result
+overflow_add-result c =
+    let n = c.word-n.result in
+    let rows : c.sum-weight.result ≡ sum (in_use c.args.desk.now) (each c.args.desk.now) =
+    sum_by_from_yields_List (each c.args.desk.now) (range_with_len 0 n) c.map.result _ c.sum-weight.ensures.ran
+    (YieldsList-from_map _ (each c.args.desk.now) (YieldsList-from_range 0 n n c.map.ensures.source (omega arith)) c.map.ensures.closure (λ x r q k. search rules))
+    ∙ total c.args.desk.now n c.word-n.ensures in
+    omega (arith, rows, c.word.ensures, most c.args.desk.now c.requires)
 
 pub returns : goal.returns
 unfolding weight_on
 returns c =
-    let e : c.loop-i.i ≡ in_use c.args.desk.now = omega (arith, c.word-n.ensures) in
-    c.loop-i.invariant ∙ ap (λ (k : ℕ). conceded c.args.desk.now + sum k (λ j. (row_on c.args.desk.now j).weight)) e
+    let n = c.word-n.result in
+    let rows : c.sum-weight.result ≡ sum (in_use c.args.desk.now) (each c.args.desk.now) =
+    sum_by_from_yields_List (each c.args.desk.now) (range_with_len 0 n) c.map.result _ c.sum-weight.ensures.ran
+    (YieldsList-from_map _ (each c.args.desk.now) (YieldsList-from_range 0 n n c.map.ensures.source (omega arith)) c.map.ensures.closure (λ x r q k. search rules))
+    ∙ total c.args.desk.now n c.word-n.ensures in
+    omega (arith, rows, c.word.ensures)

@@ -1,4 +1,4 @@
--- `top_of` meets its contract: the sum is over all rows, and one more fits.
+-- `top` meets its contract: the sum is over all rows, and one more fits.
 use Prim.Native.Nat.{ℕ, ◌+◌, ◌<◌, ◌^◌}
 use mathlib.Core.Path.{◌≡◌, ◌∙◌, ap}
 use mathlib.Core.List.{List}
@@ -12,7 +12,7 @@ use Rattle.masks.specs.Sums.{sum}
 use Rattle.masks.proofs.Sums.{sum-from_range, sum-ext}
 use Rattle.rules.specs.Table.{row_of, row_count}
 use Rattle.rules.specs.Wcnf.{top_of}
-use Rattle.wcnf_writer.proofs.top_of.Goals as goal
+use Rattle.wcnf_writer.proofs.texts.FileText.top.Goals as goal
 
 -- what row i weighs
 abbrev each : List ℕ → ℕ → ℕ
@@ -25,24 +25,24 @@ total table n = sum-from_range 0 n (each table) ∙ sum-ext n (λ i l. ap (each 
 pub sum-weights-requires-clause-fits : goal.sum-weights-requires-clause-fits
 unfolding row_count row_of
 sum-weights-requires-clause-fits c =
-    let n = row_count c.args.table.now in
-    let most : sum_by (each c.args.table.now) (range_with_len 0 n) < 2 ^ 64 = omega (arith, total c.args.table.now n, c.requires) in
-    fits_by_from_yields_list (each c.args.table.now) (range_with_len 0 n) c.map.result _
-    (YieldsList-from_map _ (each c.args.table.now) (YieldsList-from_range 0 n n c.map.ensures.source (omega arith)) c.map.ensures.closure
+    let n = row_count c.args.self.now.table.now in
+    let most : sum_by (each c.args.self.now.table.now) (range_with_len 0 n) < 2 ^ 64 = omega (arith, total c.args.self.now.table.now n, c.args.self.now.light) in
+    fits_by_from_yields_list (each c.args.self.now.table.now) (range_with_len 0 n) c.map.result _
+    (YieldsList-from_map _ (each c.args.self.now.table.now) (YieldsList-from_range 0 n n c.map.ensures.source (omega arith)) c.map.ensures.closure
     (λ x r q k. search rules))
     most
 
-sum-is : (c : goal.After-sum-weights) → c.sum-weights.result ≡ sum (row_count c.args.table.now) (each c.args.table.now)
+sum-is : (c : goal.After-sum-weights) → c.sum-weights.result ≡ sum (row_count c.args.self.now.table.now) (each c.args.self.now.table.now)
 unfolding row_count row_of
 sum-is c =
-    let n = row_count c.args.table.now in
-    sum_by_from_yields_List (each c.args.table.now) (range_with_len 0 n) c.map.result _ c.sum-weights.ensures.ran
-    (YieldsList-from_map _ (each c.args.table.now) (YieldsList-from_range 0 n n c.map.ensures.source (omega arith)) c.map.ensures.closure
+    let n = row_count c.args.self.now.table.now in
+    sum_by_from_yields_List (each c.args.self.now.table.now) (range_with_len 0 n) c.map.result _ c.sum-weights.ensures.ran
+    (YieldsList-from_map _ (each c.args.self.now.table.now) (YieldsList-from_range 0 n n c.map.ensures.source (omega arith)) c.map.ensures.closure
     (λ x r q k. search rules))
-    ∙ total c.args.table.now n
+    ∙ total c.args.self.now.table.now n
 
 pub overflow_add-result : goal.overflow_add-result
-overflow_add-result c = omega (arith, sum-is c, c.requires)
+overflow_add-result c = omega (arith, sum-is c, c.args.self.now.light)
 
 pub returns : goal.returns
 unfolding top_of
