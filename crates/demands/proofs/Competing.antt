@@ -8,7 +8,7 @@ use Rattle.rules.specs.Refusals.{Judged}
 use Rattle.rules.specs.declared.WcnfHead.{WcnfHead}
 use Rattle.rules.specs.Table.{table_why}
 use Rattle.rules.specs.Wcnf.{wcnf_text}
-use Rattle.rules.specs.WcnfReader.{header_of, header_why, wcnf_read_why, wcnf_words, wcnf_read_as, wcnf_read, wcnf_table, file_says, header_says}
+use Rattle.rules.specs.WcnfReader.{header_of, header_why, wcnf_read_why, wcnf_words, wcnf_read_as, wcnf_read, wcnf_table, file_says}
 use Rattle.rules.proofs.Judging.{words-fine}
 use Rattle.text_laws.proofs.LentBytes.{text-fine, text-written}
 use Rattle.wcnf_laws.specs.Form.{Form, Held, form_text}
@@ -26,12 +26,12 @@ pub says-judged : (most : ℕ) (s : List ℕ) (room : ℕ) → reader_why most s
 unfolding wcnf_read wcnf_read_why
 says-judged most s room = by-header (header_of s)
   where
-    accepted : (j : Judged) (v m t next line : ℕ) → by_wcnf_read (wcnf_read_as j (Ok (header_says v m t next line))) ≡ j
-    accepted (Ok _) v m t next line = refl
-    accepted (Err r) v m t next line = refl
+    accepted : (j : Judged) (head : WcnfHead) → by_wcnf_read (wcnf_read_as j (Ok head)) ≡ j
+    accepted (Ok _) head = refl
+    accepted (Err r) head = refl
 
     by-header : (h : Result WcnfHead ℕ) → by_wcnf_read (wcnf_read_as (header_why most s room h) h) ≡ header_why most s room h
-    by-header (Ok head) = accepted (header_why most s room (Ok (header_says head.variables head.clauses head.top head.next head.line))) head.variables head.clauses head.top head.next head.line
+    by-header (Ok head) = accepted (header_why most s room (Ok head)) head
     by-header (Err line) = refl
 
 module _ (most : ℕ) (f : Form) (lent : List ℕ) (held : Held f) (fine : wcnf_read_why most (form_text f) (length lent) ≡ Ok tt) where

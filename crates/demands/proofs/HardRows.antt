@@ -28,7 +28,8 @@ soft-whole : (r : Row) (full : ℕ) → is_hard r ≡ false → breaks r full �
 unfolding breaks
 soft-whole r full e = rw e
 
-module _ (n : ℕ) (table : List ℕ) (c : ℕ) (d : List ℕ) (fine : load_why n table c d ≡ Ok tt) (after : List ℕ) (stay : HardStay (load_step n table c d) after) where
+module _ (n : ℕ) (table : List ℕ) (c : ℕ) (d : List ℕ) (fine : load_why n table c d ≡ Ok tt) (after : List ℕ)
+    (stay : HardStay (load_step n table c d) after) where
   use-start : in_use (load_step n table c d) ≡ row_count table
   use-start = loaded-use n table c d (load-fine n table c d fine)
 

@@ -96,7 +96,8 @@ rows-place n table (suc k) =
 rows-small : (n : ℕ) (table : List ℕ) → bad_table table ≡ false → Small (rows_why n table (row_count table))
 rows-small n table e = omega (arith, rows-place n table (row_count table), (whole-rows table e).1)
 
-sum-small : (n : ℕ) (table : List ℕ) → bad_table table ≡ false → Small (in_order (rows_why n table (row_count table)) (refuse (sum_too_large table) SumTooLarge (Ok tt)))
+sum-small : (n : ℕ) (table : List ℕ) → bad_table table ≡ false
+    → Small (in_order (rows_why n table (row_count table)) (refuse (sum_too_large table) SumTooLarge (Ok tt)))
 sum-small n table e =
     order_small
     (rows_why n table (row_count table))
@@ -280,7 +281,8 @@ head_small most s room l (Ok head) e =
     refuse-small (ltb most_budget head.budget) BadBudget _ (omega arith) (λ _.
     refuse-small (ltb most head.rows) BadTable _ (omega arith) (λ few.
     refuse-small (ltb room (row_words * head.rows)) NoRoom _ (omega arith) (λ _.
-    rest-small s head.rows (rows_at head.rows s head.next first_row_line) (omega (arith, l, ltb-false most head.rows few)) (rows-within head.rows s head.next first_row_line)))))
+    rest-small s head.rows (rows_at head.rows s head.next first_row_line) (omega (arith, l, ltb-false most head.rows few))
+    (rows-within head.rows s head.next first_row_line)))))
 head_small most s room l (Err line) e = omega (arith, e)
 
 pub read_small : (most : ℕ) (s : List ℕ) (room : ℕ) → most ≤ most_rows → Small (by_text_read (text_read most s room))

@@ -59,7 +59,8 @@ pub record Onward (s : List ℕ) (at : ℕ) (go : ℤ → ℕ → MembersRead) (
   pub rest : go literal next ≡ r
 
 module _ (s : List ℕ) (at : ℕ) (go : ℤ → ℕ → MembersRead) (ls : List ℤ) (end : ℕ) where
-  found_plain : (p : Option (ℕ × ℕ)) → number_at s at ≡ p → on_number p broken_line (λ v next. go (pos v) next) ≡ members ls end → Onward s at go (members ls end)
+  found_plain : (p : Option (ℕ × ℕ)) → number_at s at ≡ p → on_number p broken_line (λ v next. go (pos v) next) ≡ members ls end
+      → Onward s at go (members ls end)
   unfolding size
   found_plain None h e = impossible (cc)
   found_plain (Some (v, next)) h e =

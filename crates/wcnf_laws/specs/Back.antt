@@ -21,6 +21,7 @@ pub record ReadBack (variables : ℕ) (table : List ℕ) : Type 0 where
 pub record Returns (variables : ℕ) (table out : List ℕ) : Type 0 where
   pub count : ℕ
   pub written : wcnf_written variables table out ≡ Ok count
-  pub answer : (room : ℕ) → length table ≤ room → wcnf_read most_rows (take count (wcnf_out variables table out)) room ≡ Ok (file_says variables (row_count table))
+  pub answer : (room : ℕ) → length table ≤ room
+      → wcnf_read most_rows (take count (wcnf_out variables table out)) room ≡ Ok (file_says variables (row_count table))
   pub lent : (found : List ℕ) → length table ≤ length found
       → wcnf_table most_rows (take count (wcnf_out variables table out)) found ≡ table ++ drop (length table) found

@@ -33,7 +33,8 @@ closed_at s at lits above = cond (eqb (get_or s at 0) line_feed) (Some (record {
 
 -- what is read, behind literals that were read already and whether one of them was above the count
 abbrev pub gathered : ℕ → Lits → Bool → MembersRead → Option Gathered
-gathered variables lits above (members ls next) = Some (record { lits = together lits (lits_of_members ls); above = above || some_above variables ls; next = next })
+gathered variables lits above (members ls next) =
+    Some (record { lits = together lits (lits_of_members ls); above = above || some_above variables ls; next = next })
 gathered variables lits above broken_line = None
 
 -- a clause: its weight, its literals, and whether these are bad
