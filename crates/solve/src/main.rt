@@ -17,7 +17,7 @@ fn reply(input: &[u8], output: &mut [u8]) -> usize
     requires { most_answer ≤ length output.old }
     ensures { Replies (answer input.now) result output.new }
 {
-    answer::answer(input, output).unwrap_or(0)
+    answer::answer(input, output).unwrap()
 }
 
 fn main(rt: HostRuntime) -> io::Result<()> {

@@ -1,19 +1,18 @@
 -- What is written out of lent bytes that have room for an answer: they are never refused, and hold it at their front.
-use Rattle.std.specs.Prelude.{Result, Ok, Err}
+use Rattle.std.specs.Prelude.{Result, Ok, IsOk}
 use Prim.Native.Nat.{ℕ, ◌+◌}
-use mathlib.Core.Path.{◌≡◌, ap, ◌∙◌}
+use mathlib.Core.Path.{◌≡◌, refl, ap, ◌∙◌}
 use mathlib.Core.List.{List}
 use native.Mathlib.Omega.{arith}
 use lib.ListN.{length, take, drop, length-append}
-use Rattle.masks.proofs.Choice.{impossible}
 use Rattle.rules.specs.declared.Refusal.{Refusal}
 use Rattle.rules.specs.Text.{text_why, text_written, text_out}
 use Rattle.text_laws.proofs.LentBytes.{text-written, text-at-front}
 use Rattle.streams.specs.Replies.{Replies}
 
 module _ (text output : List ℕ) (fine : text_why (Ok tt) text output ≡ Ok tt) (said : Result ℕ Refusal) (says : said ≡ text_written (Ok tt) text output) where
-  pub never-none : (r : Refusal) → said ≡ Err r → ⊥
-  never-none r e = let written = (text-written (Ok tt) text output fine).0 in impossible (cc)
+  pub never-none : IsOk said
+  never-none = let written : said ≡ Ok (length text) = says ∙ (text-written (Ok tt) text output fine).0 in rw written refl
 
   pub replied : (n : ℕ) (after : List ℕ) → said ≡ Ok n → after ≡ text_out (Ok tt) text output → Replies text n after
   replied n after e left =

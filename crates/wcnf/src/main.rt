@@ -17,7 +17,7 @@ fn reply(input: &[u8], output: &mut [u8]) -> usize
     requires { most_answer ≤ length output.old }
     ensures { Replies (wcnf_answer input.now) result output.new }
 {
-    wcnf_answer::answer_wcnf(input, output).unwrap_or(0)
+    wcnf_answer::answer_wcnf(input, output).unwrap()
 }
 
 fn main(rt: HostRuntime) -> io::Result<()> {

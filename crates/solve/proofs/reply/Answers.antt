@@ -3,12 +3,12 @@ use Rattle.answer.proofs.Lengths.{never-refused}
 use Rattle.streams.proofs.Replying.{never-none, replied}
 use Rattle.solve.proofs.reply.Goals as goal
 
-pub returns-in_default : goal.returns-in_default
-returns-in_default c =
+pub unwrap-requires : goal.unwrap-requires
+unwrap-requires c =
     let fine = never-refused c.args.input.now c.args.output.now c.requires in
-    absurd (never-none _ _ fine _ c.answer.ensures.answer _ c.in_default.is)
+    never-none _ _ fine _ c.answer.ensures.answer
 
 pub returns : goal.returns
 returns c =
     let fine = never-refused c.args.input.now c.args.output.now c.requires in
-    replied _ _ fine _ c.answer.ensures.answer _ _ c.in-Ok.is c.answer.ensures.bytes
+    replied _ _ fine _ c.answer.ensures.answer _ _ c.unwrap.ensures c.answer.ensures.bytes
