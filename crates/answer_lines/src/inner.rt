@@ -75,12 +75,6 @@ pub fn put_outcome(out: &mut [u8], outcome: Result<Outcome, Refusal>) -> usize
 {
     match outcome {
         Err(why) => put_refusal(out, why),
-        Ok(
-            Outcome {
-                variables,
-                root,
-                found,
-            },
-        ) => put_found(out, variables, root, found),
+        Ok(o) => put_found(out, o.variables, o.root, o.found),
     }
 }

@@ -8,7 +8,6 @@ ghost use Rattle.rules.specs.Reader.{text_read, read_table};
 ghost use Rattle.rules.specs.Program.{answered, answer_out};
 ghost use Rattle.telling.specs.Told.{told, by_text_read, head_out, by_written, length_out};
 
-use rules::TextRead;
 use telling::inner::tell;
 
 #[unsafe(no_mangle)]
@@ -19,12 +18,8 @@ pub extern "C" fn olikumpasho_read(text: &[u8], table: &mut [u64], head: &mut [u
 {
     match reader::read(text, table) {
         Err(broken) => tell(Err(broken)),
-        Ok(TextRead {
-            variables,
-            budget,
-            rows,
-        }) => {
-            *head = [variables, budget, rows];
+        Ok(said) => {
+            *head = [said.variables, said.budget, said.rows];
             0
         }
     }

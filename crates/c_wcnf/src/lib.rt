@@ -7,7 +7,6 @@ ghost use Rattle.rules.specs.Wcnf.{wcnf_written, wcnf_out};
 ghost use Rattle.rules.specs.WcnfReader.{wcnf_read, wcnf_table};
 ghost use Rattle.telling.specs.Told.{told, told_near, by_wcnf_read, figures_out, by_written, length_out};
 
-use rules::WcnfRead;
 use telling::inner::tell;
 use telling::tell_near;
 
@@ -19,8 +18,8 @@ pub extern "C" fn olikumpasho_read_wcnf(text: &[u8], table: &mut [u64], head: &m
 {
     match wcnf_reader::read_wcnf(text, table) {
         Err(r) => tell_near(Err(r)),
-        Ok(WcnfRead { variables, rows }) => {
-            *head = [variables, rows];
+        Ok(said) => {
+            *head = [said.variables, said.rows];
             0
         }
     }

@@ -5,7 +5,7 @@
 ghost use Rattle.std.specs.Prelude.{◌≡◌, length};
 ghost use Rattle.copy.specs.Copied.{copy_length, copy_out};
 
-use rules::{Row, TextRead};
+use rules::Row;
 use std::io;
 
 // One byte more than the longest text of an admissible table.
@@ -24,18 +24,11 @@ fn again(input: &[u8], output: &mut [u8]) -> usize
     ensures bytes { output.new ≡ copy_out input.now output.old }
 {
     let mut table = [0u64; TABLE];
-    let Ok(
-        TextRead {
-            variables,
-            budget,
-            rows,
-        },
-    ) = reader::read(input, &mut table)
-    else {
+    let Ok(said) = reader::read(input, &mut table) else {
         return 0;
     };
-    let n = Row::WORDS * (rows as usize);
-    writer::write(variables, budget as u32, &table[..n], output).unwrap_or(0)
+    let n = Row::WORDS * (said.rows as usize);
+    writer::write(said.variables, said.budget as u32, &table[..n], output).unwrap_or(0)
 }
 
 fn main(rt: HostRuntime) -> io::Result<()> {

@@ -27,11 +27,7 @@ impl Literal {
         ensures { result ≡ offered value }
     {
         let l = Literal { value };
-        if l.is_literal() {
-            Some(l)
-        } else {
-            None
-        }
+        if l.is_literal() { Some(l) } else { None }
     }
 
     fn is_literal(self) -> bool

@@ -217,7 +217,7 @@ count_at n i l = get_or-range_with_len 0 n i 0 l ∙ zero-add i
 -- what `all` says of the numbers below a count
 pub every-from_range : (r : Bool) (n : ℕ) (p : ℕ → Bool)
     → MatchBool r (AllWithin (λ x. p x ≡ true) (range_with_len 0 n) 0 (length (range_with_len 0 n)))
-        ((k : ℕ) × (k < length (range_with_len 0 n)) × HoldsAt (λ x. p x ≡ false) (range_with_len 0 n) k)
+    ((k : ℕ) × (k < length (range_with_len 0 n)) × HoldsAt (λ x. p x ≡ false) (range_with_len 0 n) k)
     → r ≡ every n p
 every-from_range true n p h =
     sym (every_true n (λ i l. ap p (sym (count_at n i l)) ∙ h i 0 (omega arith) (rw length-range_with_len l)))

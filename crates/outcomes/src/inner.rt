@@ -8,7 +8,12 @@ use bound::inner::{decisions, losses_at};
 use rules::{Choice, Desk, Outcome, Refusal, Row};
 
 // The rows behind the head, loaded where they stand, bounded and searched.
-fn search_rows(variables: u64, budget: u32, rows: u64, words: &mut [u64]) -> Result<Outcome, Refusal>
+fn search_rows(
+    variables: u64,
+    budget: u32,
+    rows: u64,
+    words: &mut [u64],
+) -> Result<Outcome, Refusal>
     requires { length words.old ≡ head_words + row_words * rows }
     ensures { result ≡ table_outcome variables budget rows (drop head_words words.old) }
 {
@@ -24,7 +29,12 @@ fn search_rows(variables: u64, budget: u32, rows: u64, words: &mut [u64]) -> Res
 }
 
 // The first so many rows, searched on a desk with room for just those.
-pub fn search_read(variables: u64, budget: u32, rows: u64, words: &mut [u64]) -> Result<Outcome, Refusal>
+pub fn search_read(
+    variables: u64,
+    budget: u32,
+    rows: u64,
+    words: &mut [u64],
+) -> Result<Outcome, Refusal>
     requires { head_words + row_words * rows ≤ length words.old }
     ensures { result ≡ table_outcome variables budget rows (take (row_words * rows) (drop head_words words.old)) }
 {

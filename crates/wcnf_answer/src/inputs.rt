@@ -15,7 +15,10 @@ pub fn outcome_of(input: &[u8]) -> Result<Outcome, Refusal>
         return Err(Refusal::InputTooLong);
     }
     let mut words = [0u64; WORDS];
-    let WcnfRead { variables, rows } =
-        read_up_to(TextRead::MOST_INPUT_ROWS, input, &mut words[Desk::HEAD..])?;
+    let WcnfRead { variables, rows } = read_up_to(
+        TextRead::MOST_INPUT_ROWS,
+        input,
+        &mut words[Desk::HEAD..],
+    )?;
     search_read(variables, u32::MAX, rows, &mut words)
 }

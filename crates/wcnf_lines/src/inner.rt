@@ -79,10 +79,6 @@ pub fn put_outcome(out: &mut [u8], outcome: Result<Outcome, Refusal>) -> usize
 {
     match outcome {
         Err(why) => put_refusal(out, why),
-        Ok(Outcome {
-            variables,
-            root: _,
-            found,
-        }) => put_found(out, variables, found),
+        Ok(o) => put_found(out, o.variables, o.found),
     }
 }

@@ -6,7 +6,6 @@ ghost use Rattle.rules.specs.WcnfReader.{header_says, clauses_why, header_why, c
 
 use literals::{Literal, Lits};
 use rules::{Refusal, Row};
-use wcnf_pieces::ClauseRead;
 
 // Nothing follows.
 fn ends(s: &[u8], at: usize) -> bool
@@ -85,19 +84,11 @@ pub fn store_rows(s: &[u8], from: usize, rows: usize, top: u64, table: &mut [u64
 {
     let mut at = from;
     for i in 0..rows {
-        let Some(
-            ClauseRead {
-                weight,
-                lits,
-                bad: _,
-                next,
-            },
-        ) = wcnf_pieces::clause_at(s, at, Literal::MOST)
-        else {
+        let Some(clause) = wcnf_pieces::clause_at(s, at, Literal::MOST) else {
             return;
         };
-        let row = clause_row(top, weight, lits);
+        let row = clause_row(top, clause.weight, clause.lits);
         words::inner::set_row_in(table, Row::WORDS * i, row);
-        at = next;
+        at = clause.next;
     }
 }

@@ -12,12 +12,7 @@ mod rows;
 mod texts;
 
 // How many bytes the text has, which then stand at the front of those lent; or why none was written.
-pub fn write(
-    variables: u64,
-    budget: u32,
-    table: &[u64],
-    out: &mut [u8],
-) -> Result<usize, Refusal>
+pub fn write(variables: u64, budget: u32, table: &[u64], out: &mut [u8]) -> Result<usize, Refusal>
     ensures answer { result ≡ written variables budget table.now out.old }
     ensures bytes { out.new ≡ write_out variables budget table.now out.old }
 {

@@ -39,7 +39,7 @@ pub returns : goal.returns
 returns c =
     let h = sym c.read.ensures.answer ∙ c.in-Ok.is in
     let front = front-words most_rows c.args.input.now (replicate (row_words * most_rows) 0) _ _ _ h in
-    let words = ap (take (row_words * c.in-Ok.field-0.rows)) c.read.ensures.words ∙ front in
+    let words = ap (take (row_words * c.in-Ok.said.rows)) c.read.ensures.words ∙ front in
     let by = read c.args.input.now c.args.output.now _ _ _ _ h words in
     record {
       length = c.unwrap_or.ensures ∙ length-or-none c.write.result ∙ ap length_of c.write.ensures.answer ∙ by.0;

@@ -10,8 +10,8 @@ unfolding rewrite_desk
 returns-in_err-rewrite_why c =
     record {
       value =
-        handed-on c.from_residual.result c.in_err-rewrite_why.field-0.0 c.from_residual.ensures.1
-        ∙ sym c.in_err-rewrite_why.was ∙ c.rewrite_why.ensures;
+          handed-on c.from_residual.result c.in_err-rewrite_why.field-0.0 c.from_residual.ensures.1
+          ∙ sym c.in_err-rewrite_why.was ∙ c.rewrite_why.ensures;
       desk_after = sym (words-refused (rewrite_why c.args.desk.now c.args.kind c.args.named.now) (rewrite_step c.args.desk.now c.args.kind c.args.named.now)
           c.args.desk.now _ (sym c.rewrite_why.ensures ∙ c.in_err-rewrite_why.was));
     }

@@ -10,8 +10,8 @@ unfolding take_back_desk
 returns-in_err-take_back_why c =
     record {
       value =
-        handed-on c.from_residual.result c.in_err-take_back_why.field-0.0 c.from_residual.ensures.1
-        ∙ sym c.in_err-take_back_why.was ∙ c.take_back_why.ensures;
+          handed-on c.from_residual.result c.in_err-take_back_why.field-0.0 c.from_residual.ensures.1
+          ∙ sym c.in_err-take_back_why.was ∙ c.take_back_why.ensures;
       desk_after = sym (words-refused (take_back_why c.args.desk.now) (take_back_step c.args.desk.now) c.args.desk.now _ (sym c.take_back_why.ensures ∙ c.in_err-take_back_why.was));
     }
 

@@ -11,8 +11,8 @@ unfolding load_desk
 returns-in_err-load_why c =
     record {
       value =
-        handed-on c.from_residual.result c.in_err-load_why.field-0.0 c.from_residual.ensures.1
-        ∙ sym c.in_err-load_why.was ∙ c.load_why.ensures;
+          handed-on c.from_residual.result c.in_err-load_why.field-0.0 c.from_residual.ensures.1
+          ∙ sym c.in_err-load_why.was ∙ c.load_why.ensures;
       desk_after = sym (words-refused (load_why c.args.variables c.args.table.now c.args.capacity c.args.desk.now)
           (load_step c.args.variables c.args.table.now c.args.capacity c.args.desk.now) c.args.desk.now _ (sym c.load_why.ensures ∙ c.in_err-load_why.was));
     }
