@@ -1,4 +1,4 @@
-// Document 01's bound under any partial reading, of a desk that the caller has judged, and the price of a node: what a search by it asks at each.
+// Document 01's bound under any partial reading, of a desk that was judged, and the price of a node: what a search by it asks at each.
 ghost use Rattle.std.specs.Prelude.{◌≡◌, ◌+◌, ◌≤◌, ◌<◌, length};
 ghost use Rattle.literals.specs.Literal.{most_variables};
 ghost use Rattle.rules.specs.Desk.{in_use, decisions};
@@ -7,13 +7,12 @@ ghost use Rattle.rules.specs.Bound.{foreseen, losses_at};
 ghost use Rattle.rules.specs.Walk.{price_of};
 ghost use Rattle.units.specs.Adds.{sum_words};
 ghost use Rattle.desk_laws.specs.Charged.{dead_charge, lost_charged};
-ghost use Rattle.desk_laws.specs.Readable.{Readable};
 ghost use Rattle.bound.specs.Units.{Gathered, smaller_at};
 
 use groups::inner::DEAD;
+use judged::JudgedDesk;
 use rules::{Desk, Losses, Part};
 use units::inner::{NEGATIVE, SUMS, add_row};
-use words::inner::row_on;
 
 // The decisions of a desk as a partial reading.
 pub fn decisions(desk: &[u64]) -> Part
@@ -30,7 +29,7 @@ const TURN: usize = 4;
 // The pass over the next rows, so many of them: the sums of units are gathered in the lent words, and the result is what is lost by then, with a
 // charge for each hard row that is.
 fn gather_next(
-    desk: &[u64],
+    desk: JudgedDesk<'_>,
     p: Part,
     charge: u64,
     from: usize,
@@ -38,29 +37,29 @@ fn gather_next(
     base: u64,
     sums: &mut [u64],
 ) -> u64
-    requires readable { Readable desk.now × (charge ≤ dead_charge) }
-    requires count_bound { from + count ≤ in_use desk.now }
-    requires base_value { base ≡ lost_charged charge desk.now p from }
-    requires gathered { Gathered desk.now p from sums.old }
-    ensures value { result ≡ lost_charged charge desk.now p (from + count) }
-    ensures gathered_2 { Gathered desk.now p (from + count) sums.new }
+    requires fair { charge ≤ dead_charge }
+    requires count_bound { from + count ≤ in_use desk.words.now }
+    requires base_value { base ≡ lost_charged charge desk.words.now p from }
+    requires gathered { Gathered desk.words.now p from sums.old }
+    ensures value { result ≡ lost_charged charge desk.entry.words.now p (from + count) }
+    ensures gathered_2 { Gathered desk.entry.words.now p (from + count) sums.new }
 {
     let mut lost = base;
     for i in 0..count {
-        let row = row_on(desk, from + i);
+        let row = desk.row(from + i);
         lost = add_row(p, row, charge, lost, sums);
     }
     lost
 }
 
 // One pass over the rows in use.
-fn gather(desk: &[u64], p: Part, charge: u64, sums: &mut [u64]) -> u64
-    requires readable { Readable desk.now × (charge ≤ dead_charge) }
-    requires gathered { Gathered desk.now p 0 sums.old }
-    ensures value { result ≡ lost_charged charge desk.now p (in_use desk.now) }
-    ensures gathered_2 { Gathered desk.now p (in_use desk.now) sums.new }
+fn gather(desk: JudgedDesk<'_>, p: Part, charge: u64, sums: &mut [u64]) -> u64
+    requires fair { charge ≤ dead_charge }
+    requires gathered { Gathered desk.words.now p 0 sums.old }
+    ensures value { result ≡ lost_charged charge desk.entry.words.now p (in_use desk.entry.words.now) }
+    ensures gathered_2 { Gathered desk.entry.words.now p (in_use desk.entry.words.now) sums.new }
 {
-    let n = rules::word(desk, Desk::IN_USE) as usize;
+    let n = desk.in_use() as usize;
     let rest = n % TURN;
     let mut lost = 0;
     for turn in 0..n / TURN {
@@ -84,12 +83,11 @@ fn smaller_at(decided: u64, v: u64, sums: &[u64]) -> u64
 }
 
 // One pass over the variables, once the sums are gathered.
-fn foreseen(desk: &[u64], p: Part, sums: &[u64]) -> u64
-    requires readable { Readable desk.now }
-    requires gathered { Gathered desk.now p (in_use desk.now) sums.now }
-    ensures { result ≡ foreseen desk.now p }
+fn foreseen(desk: JudgedDesk<'_>, p: Part, sums: &[u64]) -> u64
+    requires { Gathered desk.words.now p (in_use desk.words.now) sums.now }
+    ensures { result ≡ foreseen desk.entry.words.now p }
 {
-    let n = rules::word(desk, Desk::VARIABLES);
+    let n = desk.variables();
     let mut sum = 0;
     for v in 0..n {
         sum += smaller_at(p.decided, v, sums);
@@ -98,11 +96,10 @@ fn foreseen(desk: &[u64], p: Part, sums: &[u64]) -> u64
 }
 
 // Conceded, lost beyond that, foreseen. Nothing is charged for a hard row: the three numbers are of weights alone.
-pub fn losses_at(desk: &[u64], p: Part) -> Losses
-    requires { Readable desk.now }
-    ensures { result ≡ losses_at desk.now p }
+pub fn losses_at(desk: JudgedDesk<'_>, p: Part) -> Losses
+    ensures { result ≡ losses_at desk.entry.words.now p }
 {
-    let conceded = rules::word(desk, Desk::CONCEDED);
+    let conceded = desk.conceded();
     let mut sums = [0u64; SUMS];
     let lost = gather(desk, p, 0, &mut sums);
     let foreseen = foreseen(desk, p, &sums);
@@ -116,16 +113,15 @@ pub fn losses_at(desk: &[u64], p: Part) -> Losses
 // The price of a node: their total, and more than any best where a hard row is lost. Nothing is foreseen at such a node. Its sums are not to stand
 // on the stack at each depth of a walk.
 #[inline(never)]
-pub fn price_at(desk: &[u64], p: Part) -> u64
-    requires { Readable desk.now }
-    ensures { result ≡ price_of Choice.Units desk.now p }
+pub fn price_at(desk: JudgedDesk<'_>, p: Part) -> u64
+    ensures { result ≡ price_of Choice.Units desk.entry.words.now p }
 {
     let mut sums = [0u64; SUMS];
     let lost = gather(desk, p, DEAD, &mut sums);
     if lost >= DEAD {
         return DEAD;
     }
-    let conceded = rules::word(desk, Desk::CONCEDED);
+    let conceded = desk.conceded();
     let foreseen = foreseen(desk, p, &sums);
     conceded + lost + foreseen
 }

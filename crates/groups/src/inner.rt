@@ -1,16 +1,16 @@
-// The bound by groups under any partial reading, of a desk that the caller has judged: of the desk the head and the rows in use are read, and of
+// The bound by groups under any partial reading, of a desk that was judged: of the desk the head and the rows in use are read, and of
 // the lent words those of the rows in use are written.
 ghost use Rattle.std.specs.Prelude.{◌≡◌, ◌+◌, ◌≤◌, min, length};
 ghost use Rattle.rules.specs.Desk.{in_use};
 ghost use Rattle.rules.specs.declared.Choice.{Choice};
 ghost use Rattle.rules.specs.Groups.{groups_cost, losses_by_groups};
 ghost use Rattle.rules.specs.Walk.{price_of};
-ghost use Rattle.desk_laws.specs.Readable.{Readable};
 ghost use Rattle.hunts.specs.Hunts.{Lying};
 ghost use Rattle.groups.specs.Foresees.{Room, Hunted, Begun};
 
 use gathering::inner::{ROWS, gather, take};
 use hunts::inner::hunt;
+use judged::JudgedDesk;
 use literals::Literal;
 use rules::{Desk, Losses, Part, Row};
 use working_weights::inner::weigh;
@@ -96,14 +96,13 @@ fn foreseen_up_to(desk: &[u64], p: Part, start: u64, best: u64, weights: &mut [u
 }
 
 // Conceded, lost beyond that, foreseen by groups. Nothing is charged for a hard row.
-pub fn losses_at(desk: &[u64], p: Part, work: &mut [u64]) -> Losses
-    requires readable { Readable desk.now }
-    requires desk_in_bounds { in_use desk.now ≤ length work.old }
-    ensures { result ≡ losses_by_groups desk.now p }
+pub fn losses_at(desk: JudgedDesk<'_>, p: Part, work: &mut [u64]) -> Losses
+    requires { in_use desk.words.now ≤ length work.old }
+    ensures { result ≡ losses_by_groups desk.entry.words.now p }
 {
-    let conceded = rules::word(desk, Desk::CONCEDED);
+    let conceded = desk.conceded();
     let lost = weigh(desk, p, 0, work);
-    let foreseen = foreseen_up_to(desk, p, 0, DEAD, work);
+    let foreseen = foreseen_up_to(desk.words, p, 0, DEAD, work);
     Losses {
         conceded,
         lost,
@@ -113,16 +112,15 @@ pub fn losses_at(desk: &[u64], p: Part, work: &mut [u64]) -> Losses
 
 // The price of a node: their total, or no less than `best` where that is as much. No hunt is made once `best` is reached, and none where a hard row is
 // lost.
-pub fn price_up_to(desk: &[u64], p: Part, best: u64, work: &mut [u64]) -> u64
-    requires readable { Readable desk.now }
-    requires desk_in_bounds { in_use desk.now ≤ length work.old }
-    ensures { min best result ≡ min best (price_of Choice.Groups desk.now p) }
+pub fn price_up_to(desk: JudgedDesk<'_>, p: Part, best: u64, work: &mut [u64]) -> u64
+    requires { in_use desk.words.now ≤ length work.old }
+    ensures { min best result ≡ min best (price_of Choice.Groups desk.entry.words.now p) }
 {
     let lost = weigh(desk, p, DEAD, work);
     if lost >= DEAD {
         return DEAD;
     }
-    let conceded = rules::word(desk, Desk::CONCEDED);
+    let conceded = desk.conceded();
     let certain = conceded + lost;
-    foreseen_up_to(desk, p, certain, best, work)
+    foreseen_up_to(desk.words, p, certain, best, work)
 }

@@ -1,14 +1,13 @@
-// Working weights of a desk that the caller has judged, stored in lent words. Words behind the rows in use stay as they are.
+// Working weights of a desk that was judged, stored in lent words. Words behind the rows in use stay as they are.
 ghost use Rattle.std.specs.Prelude.{◌≡◌, ◌+◌, ◌^◌, ◌≤◌, ◌<◌, length};
 ghost use Rattle.rules.specs.Desk.{in_use};
 ghost use Rattle.desk_laws.specs.Charged.{dead_charge, charged_row, lost_charged};
-ghost use Rattle.desk_laws.specs.Readable.{Readable};
 ghost use Rattle.working_weights.specs.Works.{unsatisfied_weight, shares_of, Works};
 
 use crate::Shares;
-use rules::{Desk, Part, Row};
+use judged::JudgedDesk;
+use rules::{Part, Row};
 use values::{charge_on, remnant, satisfied, with_weight};
-use words::inner::row_on;
 
 // A row's weight, where the row is unsatisfied.
 fn unsatisfied_weight(p: Part, row: Row) -> u64
@@ -37,16 +36,16 @@ fn shares(p: Part, charge: u64, row: Row) -> Shares
 }
 
 // One pass over the rows in use: each working weight is stored, and the result is what is lost, with a charge for each hard row that is.
-pub fn weigh(desk: &[u64], p: Part, charge: u64, weights: &mut [u64]) -> u64
-    requires readable { Readable desk.now × (charge ≤ dead_charge) }
-    requires desk_in_bounds { in_use desk.now ≤ length weights.old }
-    ensures value { result ≡ lost_charged charge desk.now p (in_use desk.now) }
-    ensures works { Works desk.now p (in_use desk.now) weights.old weights.new }
+pub fn weigh(desk: JudgedDesk<'_>, p: Part, charge: u64, weights: &mut [u64]) -> u64
+    requires fair { charge ≤ dead_charge }
+    requires desk_in_bounds { in_use desk.words.now ≤ length weights.old }
+    ensures value { result ≡ lost_charged charge desk.entry.words.now p (in_use desk.entry.words.now) }
+    ensures works { Works desk.entry.words.now p (in_use desk.entry.words.now) weights.old weights.new }
 {
-    let n = rules::word(desk, Desk::IN_USE) as usize;
+    let n = desk.in_use() as usize;
     let mut lost = 0;
     for i in 0..n {
-        let row = row_on(desk, i);
+        let row = desk.row(i);
         let s = shares(p, charge, row);
         weights[i] = s.working;
         lost += s.lost;

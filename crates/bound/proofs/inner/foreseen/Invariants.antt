@@ -5,4 +5,4 @@ use Rattle.bound.proofs.Fits.{adds_at}
 use Rattle.bound.proofs.inner.foreseen.Given as goal
 
 abbrev pub invariant-loop-v : goal.invariant-loop-v
-invariant-loop-v l = l.sum ≡ sum l.v (adds_at l.desk l.p)
+invariant-loop-v l = l.sum ≡ sum l.v (adds_at l.desk.words.now l.p)

@@ -6,4 +6,4 @@ use Rattle.bound.specs.Units.{Gathered}
 use Rattle.bound.proofs.inner.gather.Given as goal
 
 abbrev pub invariant-loop-turn : goal.invariant-loop-turn
-invariant-loop-turn l = (l.lost ≡ lost_charged l.charge l.desk l.p (4 * l.turn)) × Gathered l.desk l.p (4 * l.turn) l.sums
+invariant-loop-turn l = (l.lost ≡ lost_charged l.charge l.desk.words.now l.p (4 * l.turn)) × Gathered l.desk.words.now l.p (4 * l.turn) l.sums

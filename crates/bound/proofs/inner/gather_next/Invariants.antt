@@ -7,4 +7,4 @@ use Rattle.bound.proofs.inner.gather_next.Given as goal
 
 abbrev pub invariant-loop-i : goal.invariant-loop-i
 invariant-loop-i l =
-    (l.lost ≡ lost_charged l.charge l.desk l.p (l.from + l.i)) × Gathered l.desk l.p (l.from + l.i) l.sums
+    (l.lost ≡ lost_charged l.charge l.desk.words.now l.p (l.from + l.i)) × Gathered l.desk.words.now l.p (l.from + l.i) l.sums

@@ -9,17 +9,13 @@ use Rattle.bound.proofs.inner.losses_at.Goals as goal
 pub gather-lost-requires : goal.gather-lost-requires
 gather-lost-requires c =
     record {
-      readable = (c.requires, omega arith);
-      gathered = none-gathered c.args.desk.now c.args.p;
+      fair = omega arith;
+      gathered = none-gathered c.args.desk.words.now c.args.p;
     }
 
 pub foreseen-foreseen-requires : goal.foreseen-foreseen-requires
-foreseen-foreseen-requires c =
-    record {
-      readable = c.requires;
-      gathered = c.gather-lost.ensures.gathered_2;
-    }
+foreseen-foreseen-requires c = c.gather-lost.ensures.gathered_2
 
 pub returns : goal.returns
 unfolding losses_at
-returns c = rw (c.word-conceded.ensures, c.gather-lost.ensures.value ∙ charged-none c.args.desk.now c.args.p, c.foreseen-foreseen.ensures)
+returns c = rw (c.conceded-conceded.ensures, c.gather-lost.ensures.value ∙ charged-none c.args.desk.words.now c.args.p, c.foreseen-foreseen.ensures)

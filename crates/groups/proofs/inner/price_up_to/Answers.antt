@@ -9,29 +9,29 @@ use Rattle.groups.proofs.inner.price_up_to.Goals as goal
 pub weigh-lost-requires : goal.weigh-lost-requires
 weigh-lost-requires c =
     record {
-      readable = (c.requires.readable, omega arith);
-      desk_in_bounds = c.requires.desk_in_bounds;
+      fair = omega arith;
+      desk_in_bounds = c.requires;
     }
 
 pub returns-then-lost-ge-DEAD : goal.returns-then-lost-ge-DEAD
-returns-then-lost-ge-DEAD c = rw (dead-so c.args.desk.now c.args.p c.requires.readable c.weigh-lost.ensures.value c.if-lost-ge-DEAD.true)
+returns-then-lost-ge-DEAD c = rw (dead-so c.args.desk.words.now c.args.p c.args.desk.readable c.weigh-lost.ensures.value c.if-lost-ge-DEAD.true)
 
 pub overflow_add-certain : goal.overflow_add-certain
 overflow_add-certain c =
-    let only-weights : c.weigh-lost.result ≡ lost_beyond c.args.desk.now c.args.p = alive-lost c.args.desk.now c.args.p c.requires.readable c.weigh-lost.ensures.value (omega (arith, c.if-lost-ge-DEAD.false)) in
-    omega (arith, c.word-conceded.ensures, only-weights, groups-fit c.args.desk.now c.requires.readable c.args.p)
+    let only-weights : c.weigh-lost.result ≡ lost_beyond c.args.desk.words.now c.args.p = alive-lost c.args.desk.words.now c.args.p c.args.desk.readable c.weigh-lost.ensures.value (omega (arith, c.if-lost-ge-DEAD.false)) in
+    omega (arith, c.conceded-conceded.ensures, only-weights, groups-fit c.args.desk.words.now c.args.desk.readable c.args.p)
 
 pub foreseen_up_to-requires : goal.foreseen_up_to-requires
 foreseen_up_to-requires c =
-    let only-weights : c.weigh-lost.result ≡ lost_beyond c.args.desk.now c.args.p = alive-lost c.args.desk.now c.args.p c.requires.readable c.weigh-lost.ensures.value (omega (arith, c.if-lost-ge-DEAD.false)) in
+    let only-weights : c.weigh-lost.result ≡ lost_beyond c.args.desk.words.now c.args.p = alive-lost c.args.desk.words.now c.args.p c.args.desk.readable c.weigh-lost.ensures.value (omega (arith, c.if-lost-ge-DEAD.false)) in
     record {
-      lying = lying c.args.desk.now c.requires.readable c.args.p _ _ c.weigh-lost.ensures.works c.requires.desk_in_bounds;
-      begun = begun c.args.desk.now c.requires.readable c.args.p _ _ c.weigh-lost.ensures.works _ (omega (arith, c.word-conceded.ensures, only-weights));
+      lying = lying c.args.desk.words.now c.args.desk.readable c.args.p _ _ c.weigh-lost.ensures.works c.requires;
+      begun = begun c.args.desk.words.now c.args.desk.readable c.args.p _ _ c.weigh-lost.ensures.works _ (omega (arith, c.conceded-conceded.ensures, only-weights));
     }
 
 pub returns : goal.returns
 returns c =
-    let only-weights : c.weigh-lost.result ≡ lost_beyond c.args.desk.now c.args.p = alive-lost c.args.desk.now c.args.p c.requires.readable c.weigh-lost.ensures.value (omega (arith, c.if-lost-ge-DEAD.false)) in
-    let alive = alive-so c.args.desk.now c.args.p c.requires.readable c.weigh-lost.ensures.value (omega (arith, c.if-lost-ge-DEAD.false)) in
+    let only-weights : c.weigh-lost.result ≡ lost_beyond c.args.desk.words.now c.args.p = alive-lost c.args.desk.words.now c.args.p c.args.desk.readable c.weigh-lost.ensures.value (omega (arith, c.if-lost-ge-DEAD.false)) in
+    let alive = alive-so c.args.desk.words.now c.args.p c.args.desk.readable c.weigh-lost.ensures.value (omega (arith, c.if-lost-ge-DEAD.false)) in
     rw alive
-    (certain-first c.args.desk.now c.args.p c.args.best _ _ _ c.word-conceded.ensures only-weights c.foreseen_up_to.ensures)
+    (certain-first c.args.desk.words.now c.args.p c.args.best _ _ _ c.conceded-conceded.ensures only-weights c.foreseen_up_to.ensures)

@@ -5,4 +5,4 @@ use Rattle.working_weights.specs.Works.{Works}
 use Rattle.working_weights.proofs.inner.weigh.Given as goal
 
 abbrev pub invariant-loop-i : goal.invariant-loop-i
-invariant-loop-i l = (l.lost ≡ lost_charged l.charge l.desk l.p l.i) × Works l.desk l.p l.i l.initial.weights l.weights
+invariant-loop-i l = (l.lost ≡ lost_charged l.charge l.desk.words.now l.p l.i) × Works l.desk.words.now l.p l.i l.initial.weights l.weights
