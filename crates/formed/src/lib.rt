@@ -1,11 +1,12 @@
-// A desk in lent words is well formed, (a) to (e).
+// A desk in lent words is well formed, (a) to (e), and one that is can be read.
 #![tactic(auto)]
 
-ghost use Rattle.std.specs.Prelude.{◌≡◌, not, ◌||◌, ◌+◌, ◌*◌, ◌≤◌, length};
+ghost use Rattle.std.specs.Prelude.{◌≡◌, true, false, not, ◌||◌, ◌+◌, ◌*◌, ◌≤◌, length, MatchOption};
 ghost use Rattle.masks.specs.Sums.{every};
 ghost use Rattle.rules.specs.Table.{row_words, bad_lits, bad_mark};
 ghost use Rattle.rules.specs.Desk.{head_words, row_on, reaches, in_limits, masks_nest, well_formed};
 
+use judged::JudgedDesk;
 use literals::Literal;
 use rules::{Desk, Entry, Row, word};
 use tables::inner::over;
@@ -30,6 +31,17 @@ pub fn well_formed(desk: &[u64]) -> bool
         return false;
     }
     masks_nest(desk)
+}
+
+// The same words as a desk that was judged, where they are well formed.
+pub fn judge(desk: &[u64]) -> Option<JudgedDesk<'_>>
+    ensures { MatchOption result (well_formed desk.now ≡ false) (λ d. (well_formed desk.now ≡ true) × (d.words.now ≡ desk.now)) }
+{
+    if well_formed(desk) {
+        Some(JudgedDesk { words: desk })
+    } else {
+        None
+    }
 }
 
 // (a) The words reach the end of the desk.
