@@ -3,18 +3,17 @@
 
 ghost use Rattle.std.specs.Prelude.{◌≡◌};
 ghost use Rattle.rules.specs.Choice.{losses_by, bounded};
-ghost use Rattle.desk_laws.specs.Readable.{Readable};
 
-use formed::well_formed;
+use formed::judge;
 use groups::inner::WORDS;
+use judged::JudgedDesk;
 use rules::{Choice, Losses, Part, Refusal};
 
 pub mod inner;
 
 // Conceded, lost beyond that and foreseen, by the bound that is chosen. A hunt for groups works in words of its own.
-fn losses_by(desk: &[u64], choice: Choice, p: Part) -> Losses
-    requires { Readable desk.now }
-    ensures { result ≡ losses_by choice desk.now p }
+fn losses_by(desk: JudgedDesk<'_>, choice: Choice, p: Part) -> Losses
+    ensures { result ≡ losses_by choice desk.entry.words.now p }
 {
     match choice {
         Choice::Units => inner::losses_at(desk, p),
@@ -29,10 +28,7 @@ fn losses_by(desk: &[u64], choice: Choice, p: Part) -> Losses
 pub fn bound(desk: &[u64], choice: Choice) -> Result<Losses, Refusal>
     ensures { result ≡ bounded desk.now choice }
 {
-    if well_formed(desk) {
-        let p = inner::decisions(desk);
-        Ok(losses_by(desk, choice, p))
-    } else {
-        Err(Refusal::BadDesk)
-    }
+    let judged = judge(desk).ok_or(Refusal::BadDesk)?;
+    let p = inner::decisions(desk);
+    Ok(losses_by(judged, choice, p))
 }

@@ -1,24 +1,25 @@
--- `bound` meets its contract: a well-formed desk can be read, and any other is refused.
+-- `bound` meets its contract: a well-formed desk is judged, and any other is refused.
 use Rattle.std.specs.Prelude.{Ok}
-use mathlib.Core.Path.{sym, ap, ◌∙◌}
+use Prim.Native.Nat.{ℕ}
+use mathlib.Core.Path.{ap, ap₂, ◌∙◌}
+use mathlib.Core.List.{List}
+use Rattle.masks.proofs.Choice.{handed-on}
 use Rattle.rules.specs.declared.Part.{Part}
 use Rattle.rules.specs.declared.Losses.{Losses}
 use Rattle.rules.specs.Bound.{desk_why}
 use Rattle.rules.specs.Choice.{losses_by, bounded}
-use Rattle.desk_laws.proofs.Readable.{readable}
+use Rattle.formed.proofs.Judging.{judged-so, judged-not}
 use Rattle.bound.proofs.bound.Goals as goal
 
-pub losses_by-requires : goal.losses_by-requires
-losses_by-requires c =
-    let well = sym c.well_formed-2.ensures ∙ c.if-well_formed.true in
-    readable c.args.desk.now well
-
-pub returns-then-well_formed : goal.returns-then-well_formed
+pub returns-in_err-judged : goal.returns-in_err-judged
 unfolding bounded desk_why
-returns-then-well_formed c =
-    rw (sym c.well_formed-2.ensures ∙ c.if-well_formed.true)
-    (ap (λ (l : Losses). Ok l) (c.losses_by.ensures ∙ ap (λ (p : Part). losses_by c.args.choice c.args.desk.now p) c.decisions-p.ensures))
+returns-in_err-judged c =
+    let no = judged-not c.args.desk.now _ _ _ c.judge.ensures c.ok_or.ensures.value _ c.in_err-judged.was in
+    handed-on c.from_residual.result c.in_err-judged.field-0.0 c.from_residual.ensures.1 ∙ rw (no.1, no.0)
 
-pub returns-else-well_formed : goal.returns-else-well_formed
+pub returns : goal.returns
 unfolding bounded desk_why
-returns-else-well_formed c = rw (sym c.well_formed-2.ensures ∙ c.if-well_formed.false)
+returns c =
+    let yes = judged-so c.args.desk.now _ _ _ c.judge.ensures c.ok_or.ensures.value _ c.in_ok-judged.was in
+    rw yes.0
+    (ap (λ (l : Losses). Ok l) (c.losses_by.ensures ∙ ap₂ (λ (d : List ℕ) (p : Part). losses_by c.args.choice d p) yes.1 c.decisions-p.ensures))

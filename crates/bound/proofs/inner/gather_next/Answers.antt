@@ -23,7 +23,7 @@ pub overflow_add-from : goal.overflow_add-from
 overflow_add-from c = omega (arith, c.args.desk.readable.rows, c.requires.count_bound)
 
 pub row-row-requires : goal.row-row-requires
-row-row-requires c = omega (arith, c.args.desk.readable.rows, c.requires.count_bound)
+row-row-requires c = omega (arith, c.requires.count_bound)
 
 pub add_row-lost-requires : goal.add_row-lost-requires
 add_row-lost-requires c =
