@@ -3,10 +3,10 @@
 
 ghost use Rattle.std.specs.Prelude.{◌≡◌};
 ghost use Rattle.rules.specs.Walk.{walk_in, found_by, searched};
-ghost use Rattle.desk_laws.specs.Readable.{Readable};
 
-use formed::well_formed;
+use formed::judge;
 use groups::inner::WORDS;
+use judged::JudgedDesk;
 use rules::{Choice, Found, Refusal};
 
 mod depth;
@@ -14,9 +14,8 @@ pub mod inner;
 mod states;
 
 // What is found, with words of its own lent to the walk where it hunts for groups.
-fn found_by_choice(desk: &[u64], choice: Choice, budget: u32) -> Found
-    requires { Readable desk.now }
-    ensures { result ≡ found_by (walk_in desk.now choice budget) }
+fn found_by_choice(desk: JudgedDesk<'_>, choice: Choice, budget: u32) -> Found
+    ensures { result ≡ found_by (walk_in desk.entry.words.now choice budget) }
 {
     match choice {
         Choice::Units => inner::found_on(desk, Choice::Units, budget, &mut []),
@@ -31,9 +30,6 @@ fn found_by_choice(desk: &[u64], choice: Choice, budget: u32) -> Found
 pub fn search(desk: &[u64], choice: Choice, budget: u32) -> Result<Found, Refusal>
     ensures { result ≡ searched desk.now choice budget }
 {
-    if well_formed(desk) {
-        Ok(found_by_choice(desk, choice, budget))
-    } else {
-        Err(Refusal::BadDesk)
-    }
+    let judged = judge(desk).ok_or(Refusal::BadDesk)?;
+    Ok(found_by_choice(judged, choice, budget))
 }

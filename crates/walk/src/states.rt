@@ -2,25 +2,22 @@
 ghost use Rattle.std.specs.Prelude.{◌≡◌, ◌+◌, ◌<◌, ◌^◌};
 ghost use Rattle.rules.specs.Desk.{weight_on};
 ghost use Rattle.rules.specs.Walk.{visited, kept_at, halted, at_start, status_of, best_of, found_by};
-ghost use Rattle.desk_laws.specs.Readable.{Readable};
 
-use rules::{Best, Desk, Found, Status, Walked};
-use words::inner::row_on;
+use judged::JudgedDesk;
+use rules::{Best, Found, Status, Walked};
 
 // Conceded and all weights in use.
-fn weight_on(desk: &[u64]) -> u64
-    requires { Readable desk.now }
-    ensures { result ≡ weight_on desk.now }
+fn weight_on(desk: JudgedDesk<'_>) -> u64
+    ensures { result ≡ weight_on desk.entry.words.now }
 {
-    let n = rules::word(desk, Desk::IN_USE) as usize;
-    let weight: u64 = (0..n).map(|i| row_on(desk, i).weight).sum();
-    rules::word(desk, Desk::CONCEDED) + weight
+    let n = desk.in_use() as usize;
+    let weight: u64 = (0..n).map(|i| desk.row(i).weight).sum();
+    desk.conceded() + weight
 }
 
 // No reading yet, and a weight to stay below that every reading is below.
-pub fn at_start(desk: &[u64]) -> Walked
-    requires { Readable desk.now }
-    ensures { result ≡ at_start desk.now }
+pub fn at_start(desk: JudgedDesk<'_>) -> Walked
+    ensures { result ≡ at_start desk.entry.words.now }
 {
     let weight = weight_on(desk);
     let best = weight + 1;

@@ -1,21 +1,24 @@
--- `search` meets its contract: a well-formed desk can be read, and any other is refused.
+-- `search` meets its contract: a well-formed desk is judged, and any other is refused.
 use Rattle.std.specs.Prelude.{Ok}
-use mathlib.Core.Path.{sym, ap, ◌∙◌}
+use Prim.Native.Nat.{ℕ}
+use mathlib.Core.Path.{ap, ◌∙◌}
+use mathlib.Core.List.{List}
+use Rattle.masks.proofs.Choice.{handed-on}
 use Rattle.rules.specs.declared.Found.{Found}
 use Rattle.rules.specs.Bound.{desk_why}
-use Rattle.rules.specs.Walk.{searched}
-use Rattle.desk_laws.proofs.Readable.{readable}
+use Rattle.rules.specs.Walk.{walk_in, found_by, searched}
+use Rattle.formed.proofs.Judging.{judged-so, judged-not}
 use Rattle.walk.proofs.search.Goals as goal
 
-pub found_by_choice-requires : goal.found_by_choice-requires
-found_by_choice-requires c =
-    let well = sym c.well_formed-2.ensures ∙ c.if-well_formed.true in
-    readable c.args.desk.now well
-
-pub returns-then-well_formed : goal.returns-then-well_formed
+pub returns-in_err-judged : goal.returns-in_err-judged
 unfolding searched desk_why
-returns-then-well_formed c = rw (sym c.well_formed-2.ensures ∙ c.if-well_formed.true) (ap (λ (x : Found). Ok x) c.found_by_choice.ensures)
+returns-in_err-judged c =
+    let no = judged-not c.args.desk.now _ _ _ c.judge.ensures c.ok_or.ensures.value _ c.in_err-judged.was in
+    handed-on c.from_residual.result c.in_err-judged.field-0.0 c.from_residual.ensures.1 ∙ rw (no.1, no.0)
 
-pub returns-else-well_formed : goal.returns-else-well_formed
+pub returns : goal.returns
 unfolding searched desk_why
-returns-else-well_formed c = rw (sym c.well_formed-2.ensures ∙ c.if-well_formed.false)
+returns c =
+    let yes = judged-so c.args.desk.now _ _ _ c.judge.ensures c.ok_or.ensures.value _ c.in_ok-judged.was in
+    rw yes.0
+    (ap (λ (x : Found). Ok x) (c.found_by_choice.ensures ∙ ap (λ (d : List ℕ). found_by (walk_in d c.args.choice c.args.budget)) yes.1))

@@ -31,50 +31,50 @@ smaller t d p v value q e r next h f = omega (arith, ap (lefts d) f, fewer-left 
 pub returns-then-s-budget : goal.returns-then-s-budget
 returns-then-s-budget t c =
     c.halted.ensures
-    ∙ sym (walk_refused (price_of c.args.choice c.args.desk.now) tried_first c.args.budget (undecided (variables c.args.desk.now) c.args.p.decided) c.args.p c.args.s
+    ∙ sym (walk_refused (price_of c.args.choice c.args.desk.words.now) tried_first c.args.budget (undecided (variables c.args.desk.words.now) c.args.p.decided) c.args.p c.args.s
     (omega (arith, c.if-s-budget.true)))
 
 pub returns-then-price-s : goal.returns-then-price-s
 returns-then-price-s t c =
     c.visited-here.ensures
-    ∙ sym (walk-cut (price_of c.args.choice c.args.desk.now) tried_first c.args.budget (undecided (variables c.args.desk.now) c.args.p.decided) c.args.p c.args.s
+    ∙ sym (walk-cut (price_of c.args.choice c.args.desk.words.now) tried_first c.args.budget (undecided (variables c.args.desk.words.now) c.args.p.decided) c.args.p c.args.s
     (omega (arith, c.if-s-budget.false))
     (omega (arith, c.if-price-s.true, c.price_at-price.ensures)))
 
-pub returns-then-v-word : goal.returns-then-v-word
-returns-then-v-word t c =
+pub returns-then-v-variables : goal.returns-then-v-variables
+returns-then-v-variables t c =
     let below : c.price_at-price.result < c.args.s.best = omega (arith, c.if-price-s.false) in
     c.kept_at.ensures
     ∙ ap₂ (λ (w : ℕ) (x : Walked). kept_at w c.args.p.truths x)
-    (known c.args.s.best c.price_at-price.result (price_of c.args.choice c.args.desk.now c.args.p) below c.price_at-price.ensures) c.visited-here.ensures
-    ∙ at_leaf (variables c.args.desk.now) c.next-v.result c.requires.readable.bits c.args.p c.next-v.ensures (price_of c.args.choice c.args.desk.now)
+    (known c.args.s.best c.price_at-price.result (price_of c.args.choice c.args.desk.words.now c.args.p) below c.price_at-price.ensures) c.visited-here.ensures
+    ∙ at_leaf (variables c.args.desk.words.now) c.next-v.result c.args.desk.readable.bits c.args.p c.next-v.ensures (price_of c.args.choice c.args.desk.words.now)
     tried_first c.args.budget c.args.s
     (omega (arith, c.if-s-budget.false))
     (omega (arith, c.if-price-s.false, c.price_at-price.ensures))
-    (omega (arith, c.if-v-word.true, c.word.ensures))
+    (omega (arith, c.if-v-variables.true, c.variables.ensures))
 
 pub walk-one-requires : goal.walk-one-requires
 walk-one-requires t c = (
-  smaller t c.args.desk.now c.args.p c.next-v.result true c.fixed.result c.decreases c.requires.readable c.next-v.ensures
-      (omega (arith, c.if-v-word.false, c.word.ensures))
+  smaller t c.args.desk.words.now c.args.p c.next-v.result true c.fixed.result c.decreases c.args.desk.readable c.next-v.ensures
+      (omega (arith, c.if-v-variables.false, c.variables.ensures))
       c.fixed.ensures,
-  (c.requires.readable, omega (arith, c.price_at-price.auto.work)),
+  omega (arith, c.requires, c.price_at-price.auto.work),
 )
 
 pub walk-requires : goal.walk-requires
 walk-requires t c = (
-  smaller t c.args.desk.now c.args.p c.next-v.result false c.fixed-2.result c.decreases c.requires.readable c.next-v.ensures
-      (omega (arith, c.if-v-word.false, c.word.ensures))
+  smaller t c.args.desk.words.now c.args.p c.next-v.result false c.fixed-2.result c.decreases c.args.desk.readable c.next-v.ensures
+      (omega (arith, c.if-v-variables.false, c.variables.ensures))
       c.fixed-2.ensures,
-  (c.requires.readable, omega (arith, c.price_at-price.auto.work, c.walk-one.auto.work)),
+  omega (arith, c.requires, c.price_at-price.auto.work, c.walk-one.auto.work),
 )
 
 pub returns : goal.returns
 returns t c =
-    both-branches (variables c.args.desk.now) c.next-v.result c.requires.readable.bits c.args.p c.next-v.ensures (price_of c.args.choice c.args.desk.now)
+    both-branches (variables c.args.desk.words.now) c.next-v.result c.args.desk.readable.bits c.args.p c.next-v.ensures (price_of c.args.choice c.args.desk.words.now)
     tried_first c.args.budget c.args.s
     (omega (arith, c.if-s-budget.false))
     (omega (arith, c.if-price-s.false, c.price_at-price.ensures))
-    (omega (arith, c.if-v-word.false, c.word.ensures))
+    (omega (arith, c.if-v-variables.false, c.variables.ensures))
     c.fixed.result c.fixed-2.result c.visited-here.result c.walk-one.result c.walk.result
     c.fixed.ensures c.fixed-2.ensures c.visited-here.ensures c.walk-one.ensures c.walk.ensures

@@ -5,4 +5,4 @@ use Rattle.rules.specs.Walk.{undecided}
 use Rattle.walk.proofs.depth.+walk.Given as goal
 
 abbrev pub decreases-walk : goal.decreases-walk
-decreases-walk l = length (undecided (variables l.desk.now) l.p.decided)
+decreases-walk l = length (undecided (variables l.desk.words.now) l.p.decided)

@@ -9,15 +9,13 @@ use Rattle.walk.proofs.depth.price_at.Goals as goal
 
 pub price_up_to-requires : goal.price_up_to-requires
 price_up_to-requires c =
-    record {
-      readable = c.requires.readable;
-      desk_in_bounds = subst (λ (x : Choice). work_by x c.args.desk.now ≤ length c.args.work.now) c.in-Groups.is c.requires.desk_in_bounds;
-    }
+    subst (λ (x : Choice). work_by x c.args.desk.words.now ≤ length c.args.work.now)
+    c.in-Groups.is c.requires
 
 pub returns-in-Units : goal.returns-in-Units
-returns-in-Units c = ap (min c.args.best) (c.price_at.ensures ∙ sym (ap (λ (x : Choice). price_of x c.args.desk.now c.args.p) c.in-Units.is))
+returns-in-Units c = ap (min c.args.best) (c.price_at.ensures ∙ sym (ap (λ (x : Choice). price_of x c.args.desk.words.now c.args.p) c.in-Units.is))
 
 pub returns-in-Groups : goal.returns-in-Groups
 returns-in-Groups c =
     c.price_up_to.ensures
-    ∙ sym (ap (λ (x : Choice). min c.args.best (price_of x c.args.desk.now c.args.p)) c.in-Groups.is)
+    ∙ sym (ap (λ (x : Choice). min c.args.best (price_of x c.args.desk.words.now c.args.p)) c.in-Groups.is)

@@ -19,4 +19,4 @@ pub returns : goal.returns
 returns c =
     c.found_by.ensures
     ∙ ap found_by
-    (walked c.args.desk.now c.args.choice c.args.budget _ _ _ c.at_start-start.ensures c.decisions-p.ensures c.walk-end.ensures)
+    (walked c.args.desk.words.now c.args.choice c.args.budget _ _ _ c.at_start-start.ensures c.decisions-p.ensures c.walk-end.ensures)

@@ -29,27 +29,27 @@ most desk r = r.weights
 
 pub sum-weight-requires-clause-fits : goal.sum-weight-requires-clause-fits
 sum-weight-requires-clause-fits c =
-    let n = c.word-n.result in
-    let fits : sum_by (each c.args.desk.now) (range_with_len 0 n) < 2 ^ 64 =
-    omega (arith, total c.args.desk.now n c.word-n.ensures, most c.args.desk.now c.requires) in
-    fits_by_from_yields_list (each c.args.desk.now) (range_with_len 0 n) c.map.result _
-    (YieldsList-from_map _ (each c.args.desk.now) (YieldsList-from_range 0 n n c.map.ensures.source (omega arith)) c.map.ensures.closure (λ x r q k. search rules)) fits
+    let n = c.in_use-n.result in
+    let fits : sum_by (each c.args.desk.words.now) (range_with_len 0 n) < 2 ^ 64 =
+    omega (arith, total c.args.desk.words.now n c.in_use-n.ensures, most c.args.desk.words.now c.args.desk.readable) in
+    fits_by_from_yields_list (each c.args.desk.words.now) (range_with_len 0 n) c.map.result _
+    (YieldsList-from_map _ (each c.args.desk.words.now) (YieldsList-from_range 0 n n c.map.ensures.source (omega arith)) c.map.ensures.closure (λ x r q k. search rules)) fits
 
 pub overflow_add-result : goal.overflow_add-result
 overflow_add-result c =
-    let n = c.word-n.result in
-    let rows : c.sum-weight.result ≡ sum (in_use c.args.desk.now) (each c.args.desk.now) =
-    sum_by_from_yields_List (each c.args.desk.now) (range_with_len 0 n) c.map.result _ c.sum-weight.ensures.ran
-    (YieldsList-from_map _ (each c.args.desk.now) (YieldsList-from_range 0 n n c.map.ensures.source (omega arith)) c.map.ensures.closure (λ x r q k. search rules))
-    ∙ total c.args.desk.now n c.word-n.ensures in
-    omega (arith, rows, c.word.ensures, most c.args.desk.now c.requires)
+    let n = c.in_use-n.result in
+    let rows : c.sum-weight.result ≡ sum (in_use c.args.desk.words.now) (each c.args.desk.words.now) =
+    sum_by_from_yields_List (each c.args.desk.words.now) (range_with_len 0 n) c.map.result _ c.sum-weight.ensures.ran
+    (YieldsList-from_map _ (each c.args.desk.words.now) (YieldsList-from_range 0 n n c.map.ensures.source (omega arith)) c.map.ensures.closure (λ x r q k. search rules))
+    ∙ total c.args.desk.words.now n c.in_use-n.ensures in
+    omega (arith, rows, c.conceded.ensures, most c.args.desk.words.now c.args.desk.readable)
 
 pub returns : goal.returns
 unfolding weight_on
 returns c =
-    let n = c.word-n.result in
-    let rows : c.sum-weight.result ≡ sum (in_use c.args.desk.now) (each c.args.desk.now) =
-    sum_by_from_yields_List (each c.args.desk.now) (range_with_len 0 n) c.map.result _ c.sum-weight.ensures.ran
-    (YieldsList-from_map _ (each c.args.desk.now) (YieldsList-from_range 0 n n c.map.ensures.source (omega arith)) c.map.ensures.closure (λ x r q k. search rules))
-    ∙ total c.args.desk.now n c.word-n.ensures in
-    omega (arith, rows, c.word.ensures)
+    let n = c.in_use-n.result in
+    let rows : c.sum-weight.result ≡ sum (in_use c.args.desk.words.now) (each c.args.desk.words.now) =
+    sum_by_from_yields_List (each c.args.desk.words.now) (range_with_len 0 n) c.map.result _ c.sum-weight.ensures.ran
+    (YieldsList-from_map _ (each c.args.desk.words.now) (YieldsList-from_range 0 n n c.map.ensures.source (omega arith)) c.map.ensures.closure (λ x r q k. search rules))
+    ∙ total c.args.desk.words.now n c.in_use-n.ensures in
+    omega (arith, rows, c.conceded.ensures)
