@@ -5,6 +5,7 @@ ghost use Rattle.rules.specs.Desk.{head_words};
 ghost use Rattle.rules.specs.Program.{table_outcome};
 
 use bound::inner::{decisions, losses_at};
+use judged::JudgedDesk;
 use rules::{Choice, Desk, Outcome, Refusal, Row};
 
 // The rows behind the head, loaded where they stand, bounded and searched.
@@ -18,9 +19,10 @@ fn search_rows(
     ensures { result ≡ table_outcome variables budget rows (drop head_words words.old) }
 {
     desk::inner::load_front(variables, rows, words)?;
-    let p = decisions(words);
-    let root = losses_at(words, p);
-    let found = walk::inner::found_on(words, Choice::Units, budget, &mut []);
+    let front = JudgedDesk { words };
+    let p = decisions(front.words);
+    let root = losses_at(front, p);
+    let found = walk::inner::found_on(front, Choice::Units, budget, &mut []);
     Ok(Outcome {
         variables,
         root,

@@ -1,18 +1,13 @@
 -- `search_rows` meets its contract: rows are refused as any table, and what is loaded can be read.
 use mathlib.Core.Path.{◌∙◌}
-use native.Mathlib.Omega.{arith}
 use Rattle.masks.proofs.Choice.{handed-on}
 use Rattle.outcomes.proofs.Searching.{not-loaded, front-readable, loaded}
 use Rattle.outcomes.proofs.inner.search_rows.Goals as goal
 
-pub losses_at-root-requires : goal.losses_at-root-requires
-losses_at-root-requires c = front-readable c.args.variables c.args.budget c.args.rows c.args.words.now c.requires _ _ c.load_front.ensures.value c.in_ok-load_front.was c.load_front.ensures.words_after
-
-pub found_on-found-requires : goal.found_on-found-requires
-found_on-found-requires c =
+pub invariant_of-front : goal.invariant_of-front
+invariant_of-front c =
     record {
       readable = front-readable c.args.variables c.args.budget c.args.rows c.args.words.now c.requires _ _ c.load_front.ensures.value c.in_ok-load_front.was c.load_front.ensures.words_after;
-      desk_in_bounds = omega arith;
     }
 
 pub returns-in_err-load_front : goal.returns-in_err-load_front
