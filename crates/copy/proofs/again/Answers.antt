@@ -15,8 +15,8 @@ overflow_mul-n c =
     let fine = read-fine _ _ _ _ _ _ (sym c.read.ensures.answer ∙ c.in-Ok.is) in
     omega (arith, fine.few)
 
-pub overflow_cast-budget : goal.overflow_cast-budget
-overflow_cast-budget c =
+pub overflow_cast-said : goal.overflow_cast-said
+overflow_cast-said c =
     let fine = read-fine _ _ _ _ _ _ (sym c.read.ensures.answer ∙ c.in-Ok.is) in
     omega (arith, fine.budget)
 
