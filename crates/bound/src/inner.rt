@@ -10,7 +10,7 @@ ghost use Rattle.desk_laws.specs.Charged.{dead_charge, lost_charged};
 ghost use Rattle.bound.specs.Units.{Gathered, smaller_at};
 
 use groups::inner::DEAD;
-use judged::JudgedDesk;
+use judged::inner::JudgedDesk;
 use rules::{Desk, Losses, Part};
 use units::inner::{NEGATIVE, SUMS, add_row};
 

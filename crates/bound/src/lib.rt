@@ -6,7 +6,7 @@ ghost use Rattle.rules.specs.Choice.{losses_by, bounded};
 
 use formed::judge;
 use groups::inner::WORDS;
-use judged::JudgedDesk;
+use judged::inner::JudgedDesk;
 use rules::{Choice, Losses, Part, Refusal};
 
 pub mod inner;

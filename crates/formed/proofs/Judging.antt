@@ -7,7 +7,7 @@ use Prim.Native.Nat.{ℕ}
 use Rattle.masks.proofs.Choice.{some-of-ok, none-of-err}
 use Rattle.rules.specs.declared.Refusal.{Refusal}
 use Rattle.rules.specs.Desk.{well_formed}
-use Rattle.judged.specs.declared.JudgedDesk.{JudgedDesk}
+use Rattle.judged.specs.declared.inner.JudgedDesk.{JudgedDesk}
 
 module _ (d : List ℕ) (o : Option JudgedDesk) (why : Refusal) (r : Result JudgedDesk Refusal)
     (judging : MatchOption o (well_formed d ≡ false) (λ j. (well_formed d ≡ true) × (j.words.now ≡ d))) (asked : r ≡ ok_or o why) where

@@ -6,7 +6,7 @@ ghost use Rattle.masks.specs.Sums.{every};
 ghost use Rattle.rules.specs.Table.{row_words, bad_lits, bad_mark};
 ghost use Rattle.rules.specs.Desk.{head_words, row_on, reaches, in_limits, masks_nest, well_formed};
 
-use judged::JudgedDesk;
+use judged::inner::JudgedDesk;
 use literals::Literal;
 use rules::{Desk, Entry, Row, word};
 use tables::inner::over;

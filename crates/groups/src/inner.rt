@@ -10,7 +10,7 @@ ghost use Rattle.groups.specs.Foresees.{Room, Hunted, Begun};
 
 use gathering::inner::{ROWS, gather, take};
 use hunts::inner::hunt;
-use judged::JudgedDesk;
+use judged::inner::JudgedDesk;
 use literals::Literal;
 use rules::{Desk, Losses, Part, Row};
 use working_weights::inner::weigh;

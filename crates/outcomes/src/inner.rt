@@ -5,7 +5,7 @@ ghost use Rattle.rules.specs.Desk.{head_words};
 ghost use Rattle.rules.specs.Program.{table_outcome};
 
 use bound::inner::{decisions, losses_at};
-use judged::JudgedDesk;
+use judged::inner::JudgedDesk;
 use rules::{Choice, Desk, Outcome, Refusal, Row};
 
 // The rows behind the head, loaded where they stand, bounded and searched.

@@ -7,7 +7,7 @@ ghost use Rattle.walk.specs.Work.{work_by};
 
 use crate::states::{halted, kept_at, visited};
 use groups::inner::price_up_to;
-use judged::JudgedDesk;
+use judged::inner::JudgedDesk;
 use rules::{Choice, Part, Walked};
 
 // The lowest variable that is left, or 64.

@@ -5,7 +5,7 @@ ghost use Rattle.walk.specs.Work.{work_by};
 
 use crate::{depth, states};
 use bound::inner::decisions;
-use judged::JudgedDesk;
+use judged::inner::JudgedDesk;
 use rules::{Choice, Found};
 
 // What the walk has found at its end.

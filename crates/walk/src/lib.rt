@@ -6,7 +6,7 @@ ghost use Rattle.rules.specs.Walk.{walk_in, found_by, searched};
 
 use formed::judge;
 use groups::inner::WORDS;
-use judged::JudgedDesk;
+use judged::inner::JudgedDesk;
 use rules::{Choice, Found, Refusal};
 
 mod depth;

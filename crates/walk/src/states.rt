@@ -3,7 +3,7 @@ ghost use Rattle.std.specs.Prelude.{◌≡◌, ◌+◌, ◌<◌, ◌^◌};
 ghost use Rattle.rules.specs.Desk.{weight_on};
 ghost use Rattle.rules.specs.Walk.{visited, kept_at, halted, at_start, status_of, best_of, found_by};
 
-use judged::JudgedDesk;
+use judged::inner::JudgedDesk;
 use rules::{Best, Found, Status, Walked};
 
 // Conceded and all weights in use.

@@ -5,7 +5,7 @@ ghost use Rattle.desk_laws.specs.Charged.{dead_charge, charged_row, lost_charged
 ghost use Rattle.working_weights.specs.Works.{unsatisfied_weight, shares_of, Works};
 
 use crate::Shares;
-use judged::JudgedDesk;
+use judged::inner::JudgedDesk;
 use rules::{Part, Row};
 use values::{charge_on, remnant, satisfied, with_weight};
 
