@@ -15,6 +15,14 @@ number-known Shift = omega arith
 number-known Chain = omega arith
 number-known Fork = omega arith
 
+-- all but a decision are rewritings
+pub rewriting-some : (k : Kind) → (k ≡ Decision → ⊥) → 1 ≤ number k
+rewriting-some Decision n = absurd (n refl)
+rewriting-some Merge n = omega arith
+rewriting-some Shift n = omega arith
+rewriting-some Chain n = omega arith
+rewriting-some Fork n = omega arith
+
 -- 1 is a merge's alone
 pub not-merge : (k : Kind) → (k ≡ Merge → ⊥) → eqb (number k) 1 ≡ false
 not-merge Decision n = refl
