@@ -1,1 +1,2 @@
 pub mod Conceding
+pub mod Numbers

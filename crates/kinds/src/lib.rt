@@ -1,49 +1,99 @@
-// The constant table by step kind, 0 to 4. Above 4 there is no kind, and each figure is 0.
+// The kinds of step, and the constant table by kind.
 #![tactic(auto)]
 
-ghost use Rattle.std.specs.Prelude.{◌≡◌, get_or};
-ghost use Rattle.rules.specs.Steps.{fewer_added, concedes, count_fits};
+ghost use Rattle.std.specs.Prelude.{◌≡◌, ◌<◌, MatchOption};
+ghost use Rattle.rules.specs.Steps.{most_kind, fewest, most, fewer_added, concedes, count_fits};
+ghost use Rattle.kinds.specs.Numbers.{number};
 
 use rules::Entry;
 
 // The most links that a chain or a fork may have.
 const LINKS: u64 = Entry::LONGEST as u64;
 
-// Fewest and most rows named, rows named less rows added, and whether it concedes.
-const FEWEST: [u64; Entry::KINDS] = [0, 2, 2, 2, 4];
-
-const MOST: [u64; Entry::KINDS] = [0, 2, 2, 2 + LINKS, 4 + LINKS];
-
-const FEWER_ADDED: [u64; Entry::KINDS] = [0, 1, 0, 2, 2];
-
-const CONCEDES: [u64; Entry::KINDS] = [0, 0, 0, 1, 1];
-
-pub fn count_fits(kind: u64, n: u64) -> bool
-    ensures { result ≡ count_fits kind n }
-{
-    (figure(FEWEST, kind) <= n) & (n <= figure(MOST, kind))
+// A step's kind, in the order of document 01's numbers, which begin at 0.
+#[derive(Clone, Copy)]
+pub enum Kind {
+    Decision,
+    Merge,
+    Shift,
+    Chain,
+    Fork,
 }
 
-// Rows named less rows added.
-pub fn fewer_added(kind: u64) -> u64
-    ensures { result ≡ fewer_added kind }
-{
-    figure(FEWER_ADDED, kind)
-}
+impl Kind {
+    // The kind that has a number. Above 4 there is none.
+    pub fn of(n: u64) -> Option<Kind>
+        ensures { MatchOption result (most_kind < n) (λ k. number k ≡ n) }
+    {
+        match n {
+            0 => Some(Kind::Decision),
+            1 => Some(Kind::Merge),
+            2 => Some(Kind::Shift),
+            3 => Some(Kind::Chain),
+            4 => Some(Kind::Fork),
+            _ => None,
+        }
+    }
 
-// 1 where the kind concedes w, else 0.
-pub fn concedes(kind: u64) -> u64
-    ensures { result ≡ concedes kind }
-{
-    figure(CONCEDES, kind)
-}
+    pub fn number(self) -> u64
+        ensures { result ≡ number self }
+    {
+        self as u64
+    }
 
-fn figure(table: [u64; Entry::KINDS], kind: u64) -> u64
-    ensures { result ≡ get_or table kind 0 }
-{
-    if kind < Entry::KINDS as u64 {
-        table[kind as usize]
-    } else {
-        0
+    // Whether so many rows may be named.
+    #[tactic(auto, unfolding(rules::specs::Steps::count_fits))]
+    pub fn count_fits(self, n: u64) -> bool
+        ensures { result ≡ count_fits (number self) n }
+    {
+        (self.fewest() <= n) & (n <= self.most())
+    }
+
+    // Fewest rows named.
+    #[tactic(auto, unfolding(rules::specs::Steps::fewest))]
+    fn fewest(self) -> u64
+        ensures { result ≡ fewest (number self) }
+    {
+        match self {
+            Kind::Decision => 0,
+            Kind::Merge | Kind::Shift | Kind::Chain => 2,
+            Kind::Fork => 4,
+        }
+    }
+
+    // Most rows named.
+    #[tactic(auto, unfolding(rules::specs::Steps::most))]
+    fn most(self) -> u64
+        ensures { result ≡ most (number self) }
+    {
+        match self {
+            Kind::Decision => 0,
+            Kind::Merge | Kind::Shift => 2,
+            Kind::Chain => 2 + LINKS,
+            Kind::Fork => 4 + LINKS,
+        }
+    }
+
+    // Rows named less rows added.
+    #[tactic(auto, unfolding(rules::specs::Steps::fewer_added))]
+    pub fn fewer_added(self) -> u64
+        ensures { result ≡ fewer_added (number self) }
+    {
+        match self {
+            Kind::Decision | Kind::Shift => 0,
+            Kind::Merge => 1,
+            Kind::Chain | Kind::Fork => 2,
+        }
+    }
+
+    // 1 where the kind concedes w, else 0.
+    #[tactic(auto, unfolding(rules::specs::Steps::concedes))]
+    pub fn concedes(self) -> u64
+        ensures { result ≡ concedes (number self) }
+    {
+        match self {
+            Kind::Decision | Kind::Merge | Kind::Shift => 0,
+            Kind::Chain | Kind::Fork => 1,
+        }
     }
 }

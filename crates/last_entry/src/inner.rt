@@ -3,9 +3,10 @@ ghost use Rattle.std.specs.Prelude.{◌≡◌, true, ◌≤◌};
 ghost use Rattle.rules.specs.Desk.{in_use};
 ghost use Rattle.rules.specs.Steps.{most_named};
 ghost use Rattle.rules.specs.TakeBack.{bad_decision, bad_rewriting, bad_last, last_kind, last_conceded};
+ghost use Rattle.kinds.specs.Numbers.{number};
 ghost use Rattle.last_entry.specs.Last.{Stands, Counts, named_well, added_well, soft_named, over_after};
 
-use kinds::{concedes, count_fits, fewer_added};
+use kinds::Kind;
 use named::{all_below, repeated};
 use rules::{Desk, Entry, Row, word};
 use tables::inner::over;
@@ -17,14 +18,13 @@ pub fn bad_last(desk: &[u64]) -> bool
     requires { Stands desk.now }
     ensures { result ≡ bad_last desk.now }
 {
-    let kind = last_word(desk, Desk::VARIABLES);
-    if kind > Entry::MOST_KIND {
+    let Some(kind) = Kind::of(last_word(desk, Entry::KIND)) else {
         return true;
+    };
+    match kind {
+        Kind::Decision => bad_decision(desk),
+        _ => bad_rewriting(desk, kind),
     }
-    if kind == 0 {
-        return bad_decision(desk);
-    }
-    bad_rewriting(desk)
 }
 
 // What the step added to conceded.
@@ -32,15 +32,15 @@ pub fn conceded_by(desk: &[u64]) -> u64
     requires { Stands desk.now }
     ensures { result ≡ last_conceded desk.now }
 {
-    let kind = last_word(desk, Desk::VARIABLES);
-    let w = last_word(desk, Desk::IN_USE);
-    if (kind == 1) & (word(desk, Desk::IN_USE) == last_word(desk, Entry::FIRST)) {
-        return w;
-    }
-    if concedes(kind) == 0 {
+    let Some(kind) = Kind::of(last_word(desk, Entry::KIND)) else {
         return 0;
+    };
+    let w = last_word(desk, Entry::WEIGHT);
+    let none_added = word(desk, Desk::IN_USE) == last_word(desk, Entry::FIRST);
+    match kind {
+        Kind::Merge if none_added => w,
+        _ => w * kind.concedes(),
     }
-    w
 }
 
 // A decision on a variable that isn't decided.
@@ -48,7 +48,7 @@ fn bad_decision(desk: &[u64]) -> bool
     requires { Stands desk.now }
     ensures { result ≡ bad_decision desk.now }
 {
-    let v = last_word(desk, Desk::IN_USE);
+    let v = last_word(desk, Entry::VARIABLE);
     if v == 0 {
         return true;
     }
@@ -56,16 +56,15 @@ fn bad_decision(desk: &[u64]) -> bool
 }
 
 // A rewriting's entry that no rewriting can have left.
-fn bad_rewriting(desk: &[u64]) -> bool
+fn bad_rewriting(desk: &[u64], kind: Kind) -> bool
     requires stands { Stands desk.now }
-    requires bound { 1 ≤ last_kind desk.now }
-    requires desk_bound { last_kind desk.now ≤ 4 }
+    requires kind_told { number kind ≡ last_kind desk.now }
+    requires some { 1 ≤ last_kind desk.now }
     ensures { result ≡ bad_rewriting desk.now }
 {
-    let kind = last_word(desk, Desk::VARIABLES);
-    let n = last_word(desk, Desk::CAPACITY);
+    let n = last_word(desk, Entry::COUNT);
     let first = last_word(desk, Entry::FIRST);
-    if !count_fits(kind, n) {
+    if !kind.count_fits(n) {
         return true;
     }
     if !rows_named(desk, n as usize, first) {
@@ -99,18 +98,21 @@ fn rows_named(desk: &[u64], n: usize, first: u64) -> bool
 }
 
 // The rows in use above the first new row are what the kind adds.
-fn rows_added(desk: &[u64], kind: u64, n: u64, first: u64) -> bool
+fn rows_added(desk: &[u64], kind: Kind, n: u64, first: u64) -> bool
     requires { Stands desk.now }
-    ensures { result ≡ added_well desk.now kind n first }
+    ensures { result ≡ added_well desk.now (number kind) n first }
 {
     let in_use = word(desk, Desk::IN_USE);
-    let total = in_use + fewer_added(kind);
+    let total = in_use + kind.fewer_added();
     if n <= total {
         if total - n == first {
             return true;
         }
     }
-    (kind == 1) & (in_use == first)
+    match kind {
+        Kind::Merge => in_use == first,
+        _ => false,
+    }
 }
 
 // None of its rows is hard.
@@ -132,7 +134,7 @@ fn too_heavy(desk: &[u64], n: u64, first: u64, start: u64) -> bool
     requires { Counts desk.now n first start }
     ensures { result ≡ over_after desk.now n first start }
 {
-    let w = last_word(desk, Desk::IN_USE);
+    let w = last_word(desk, Entry::WEIGHT);
     if w > Row::MOST_WEIGHT {
         return true;
     }

@@ -1,34 +1,33 @@
 // The new rows of a rewriting, in document 01's order, and its entry.
+// A value that holds the desk would keep it from being written. So desk and named rows come apart, and Behind stands as a clause; the two are one
+// value where remnants are read.
 ghost use Rattle.std.specs.Prelude.{◌≡◌, ◌+◌, ◌-◌, ◌*◌, ◌≤◌, ◌<◌, [], ◌∷◌, length};
 ghost use Rattle.rules.specs.Table.{row_words};
 ghost use Rattle.rules.specs.Desk.{head_words};
 ghost use Rattle.rules.specs.Rewrite.{compensating, given, laid, rewriting_entry};
 ghost use Rattle.rules.specs.Steps.{remnant_of, stored, most_named};
+ghost use Rattle.kinds.specs.Numbers.{number};
 ghost use Rattle.laying.specs.Room.{Behind, Fitting, fork_rows};
 
+use kinds::Kind;
 use literals::Lits;
-use remnants::inner::{apart_from, clash, fork_end, remnant_of};
+use remnants::inner::Naming;
 use rules::{Entry, Row};
 use words::inner::set_row;
 
 // Lays the new rows from row `first` on.
-pub fn lay(desk: &mut [u64], kind: u64, named: &[u64], first: usize, w: u64)
-    requires { Fitting desk.old kind named.now first }
-    ensures { desk.new ≡ laid desk.old first w (stored (given desk.old kind named.now)) }
+pub fn lay(desk: &mut [u64], kind: Kind, named: &[u64], first: usize, w: u64)
+    requires { Fitting desk.old (number kind) named.now first }
+    ensures { desk.new ≡ laid desk.old first w (stored (given desk.old (number kind) named.now)) }
 {
-    if kind == 1 {
-        lay_merge(desk, named, first, w);
-        return;
+    match kind {
+        // It gives no row.
+        Kind::Decision => unreachable!(),
+        Kind::Merge => lay_merge(desk, named, first, w),
+        Kind::Shift => lay_shift(desk, named, first, w),
+        Kind::Chain => lay_back(desk, named, named.len() - 2, first, w),
+        Kind::Fork => lay_fork(desk, named, first, w),
     }
-    if kind == 2 {
-        lay_shift(desk, named, first, w);
-        return;
-    }
-    if kind == 3 {
-        lay_back(desk, named, named.len() - 2, first, w);
-        return;
-    }
-    lay_fork(desk, named, first, w);
 }
 
 // The common rest, unless it is empty.
@@ -38,9 +37,7 @@ fn lay_merge(desk: &mut [u64], named: &[u64], first: usize, w: u64)
     requires first_in_bounds { head_words + row_words * (first + 1) ≤ length desk.old }
     ensures { desk.new ≡ laid desk.old first w (stored (given desk.old 1 named.now)) }
 {
-    let l = remnant_of(desk, named, 0);
-    let m = remnant_of(desk, named, 1);
-    let rest = apart_from(clash(l, m), l);
+    let rest = Naming { desk, named }.rest();
     if rest.is_empty() {
         return;
     }
@@ -63,8 +60,9 @@ fn lay_shift(desk: &mut [u64], named: &[u64], first: usize, w: u64)
     requires first_in_bounds { head_words + row_words * (first + 2) ≤ length desk.old }
     ensures { desk.new ≡ laid desk.old first w (given desk.old 2 named.now) }
 {
-    let one = remnant_of(desk, named, 0);
-    let two = remnant_of(desk, named, 1).less(one.negated());
+    let rows = Naming { desk, named };
+    let one = rows.remnant(0);
+    let two = rows.remnant(1).less(one.negated());
     lay_two(desk, first, one.together(two.negated()), two, w);
 }
 
@@ -75,9 +73,9 @@ fn lay_back(desk: &mut [u64], named: &[u64], k: usize, first: usize, w: u64)
     requires k_in_bounds_2 { head_words + row_words * (first + k) ≤ length desk.old }
     ensures { desk.new ≡ laid desk.old first w (compensating (remnant_of desk.old named.now) k) }
 {
-    let mut lit = remnant_of(desk, named, 0);
+    let mut lit = Naming { desk, named }.remnant(0);
     for i in 0..k {
-        let next = remnant_of(desk, named, i + 1).less(lit.negated());
+        let next = Naming { desk, named }.remnant(i + 1).less(lit.negated());
         set_row(desk, first + i, Row::new(lit.together(next.negated()), w));
         lit = next;
     }
@@ -91,18 +89,18 @@ fn lay_fork(desk: &mut [u64], named: &[u64], first: usize, w: u64)
     ensures { desk.new ≡ laid desk.old first w (fork_rows desk.old named.now) }
 {
     let k = named.len() - 4;
-    let end = fork_end(desk, named, k);
+    let end = Naming { desk, named }.fork_end(k);
     lay_back(desk, named, k, first, w);
     lay_two(desk, first + k, end.one, end.other, w);
 }
 
 // Kind, w, count of rows named, the rows, 0 in those not needed, and the first new row.
-pub fn rewriting_entry(kind: u64, w: u64, named: &[u64], first: u64) -> [u64; Entry::WORDS]
+pub fn rewriting_entry(kind: Kind, w: u64, named: &[u64], first: u64) -> [u64; Entry::WORDS]
     requires { length named.now ≤ most_named }
-    ensures { result ≡ rewriting_entry kind w named.now first }
+    ensures { result ≡ rewriting_entry (number kind) w named.now first }
 {
     let mut entry = [
-        kind,
+        kind.number(),
         w,
         named.len() as u64,
         0,

@@ -1,6 +1,6 @@
 -- What the table by kind says of the count of rows named.
 use Prim.Native.Nat.{ℕ, ◌≤◌}
-use mathlib.Core.Path.{◌≡◌, refl}
+use mathlib.Core.Path.{◌≡◌}
 use mathlib.Core.Bool.{true}
 use native.Mathlib.Omega.{arith}
 use Rattle.rules.specs.Steps.{fewest, most, fewer_added, count_fits, most_named}
@@ -12,13 +12,10 @@ unfolding fewest
 two-named kind n w =
     by_kind (λ k. fewest k ≤ n → 2 ≤ n) (λ h. h) (λ h. h) (λ h. h) (λ h. omega arith) kind w.some w.known w.fewest_named
 
--- the fourth kind is what is left
-pub four-named : (kind n : ℕ) → WellNamed kind n → (kind ≡ 1 → ⊥) → (kind ≡ 2 → ⊥) → (kind ≡ 3 → ⊥) → 4 ≤ n
+-- a fork's rows
+pub four-named : (n : ℕ) → WellNamed 4 n → 4 ≤ n
 unfolding fewest
-four-named kind n w a b c =
-    by_kind (λ k. (k ≡ 1 → ⊥) → (k ≡ 2 → ⊥) → (k ≡ 3 → ⊥) → fewest k ≤ n → 4 ≤ n)
-    (λ x y z h. absurd (x refl)) (λ x y z h. absurd (y refl)) (λ x y z h. absurd (z refl)) (λ x y z h. h)
-    kind w.some w.known a b c w.fewest_named
+four-named n w = w.fewest_named
 
 pub fewer-named : (kind n : ℕ) → WellNamed kind n → fewer_added kind ≤ n
 unfolding fewest fewer_added

@@ -21,6 +21,10 @@ merges_two l m =
     let v = clash l m in
     eqb (count v) 1 && same_lits (apart_from v l) (apart_from v m)
 
+-- what a merge leaves of its two rows
+abbrev pub rest_of : (ℕ → Lits) → Lits
+rest_of f = apart_from (clash (f 0) (f 1)) (f 0)
+
 -- how far a chain over k rows fits, and where it leads
 unfoldable pub link_of : (ℕ → Lits) → ℕ → Link
 link_of f k = record { fits = links f k; lit = lit f k }
@@ -43,4 +47,4 @@ pub record WellNamed (kind n : ℕ) : Type 0 where
 unfoldable pub added_rows : List ℕ → ℕ → List ℕ → ℕ
 added_rows d kind named =
     let f = remnant_of d named in
-    cond (eqb kind 1 && is_empty (apart_from (clash (f 0) (f 1)) (f 0))) 0 (length named - fewer_added kind)
+    cond (eqb kind 1 && is_empty (rest_of f)) 0 (length named - fewer_added kind)

@@ -3,27 +3,29 @@ ghost use Rattle.std.specs.Prelude.{◌≡◌, cond, ◌&&◌, eqb, set, Ok};
 ghost use Rattle.rules.specs.Decide.{entered};
 ghost use Rattle.rules.specs.Rewrite.{rewrite_why, rewrite_step};
 ghost use Rattle.rules.specs.Steps.{concedes};
+ghost use Rattle.kinds.specs.Numbers.{number};
 ghost use Rattle.words.specs.Room.{EntryLeft};
 
-use kinds::concedes;
+use kinds::Kind;
 use laying::inner::{lay, rewriting_entry};
 use named::inner::reweigh;
-use remnants::inner::{added, lightest};
+use remnants::inner::Naming;
 use rules::{Desk, Entry};
 use words::inner::enter;
 
-pub fn rewrite_step(desk: &mut [u64], kind: u64, named: &[u64])
-    requires { rewrite_why desk.old kind named.now ≡ Ok tt }
-    ensures { desk.new ≡ rewrite_step desk.old kind named.now }
+pub fn rewrite_step(desk: &mut [u64], kind: Kind, named: &[u64])
+    requires { rewrite_why desk.old (number kind) named.now ≡ Ok tt }
+    ensures { desk.new ≡ rewrite_step desk.old (number kind) named.now }
 {
     let first = desk[Desk::IN_USE];
-    let w = lightest(desk, named);
-    let rows = added(desk, kind, named);
-    let conceded = desk[Desk::CONCEDED] + w * owed(kind, rows);
+    let rows = Naming { desk, named };
+    let w = rows.lightest();
+    let added = rows.added(kind);
+    let conceded = desk[Desk::CONCEDED] + w * owed(kind, added);
     reweigh(desk, named, w, false);
     lay(desk, kind, named, first as usize, w);
     let entry = rewriting_entry(kind, w, named, first);
-    settle(desk, first + rows, conceded, entry);
+    settle(desk, first + added, conceded, entry);
 }
 
 // Rows in use and conceded as they are now, and the step's entry.
@@ -37,12 +39,11 @@ fn settle(desk: &mut [u64], in_use: u64, conceded: u64, entry: [u64; Entry::WORD
 }
 
 // How often w is conceded: by the kind, or by a merge that adds no row.
-fn owed(kind: u64, rows: u64) -> u64
-    ensures { result ≡ cond (eqb kind 1 && eqb rows 0) 1 (concedes kind) }
+fn owed(kind: Kind, added: u64) -> u64
+    ensures { result ≡ cond (eqb (number kind) 1 && eqb added 0) 1 (concedes (number kind)) }
 {
-    if (kind == 1) & (rows == 0) {
-        1
-    } else {
-        concedes(kind)
+    match kind {
+        Kind::Merge if added == 0 => 1,
+        _ => kind.concedes(),
     }
 }

@@ -15,7 +15,7 @@ pub fn rewrite(desk: &mut [u64], kind: u64, named: &[u64]) -> Result<(), Refusal
     ensures value { result ≡ rewrite_why desk.old kind named.now }
     ensures desk_after { desk.new ≡ rewrite_desk desk.old kind named.now }
 {
-    rewrite_why(desk, kind, named)?;
+    let kind = rewrite_why(desk, kind, named)?;
     rewrite_step(desk, kind, named);
     Ok(())
 }

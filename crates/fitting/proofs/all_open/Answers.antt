@@ -30,22 +30,22 @@ open_row desk i =
     not (is_hard row || (eqb row.weight 0 || satisfied (decisions desk) row.lits))
 
 pub bounds-desk-5 : goal.bounds-desk-5
-bounds-desk-5 c = omega (arith, c.requires.head)
+bounds-desk-5 c = omega (arith, c.args.rows.now.on_desk.head)
 
 pub bounds-desk-6 : goal.bounds-desk-6
-bounds-desk-6 c = omega (arith, c.requires.head)
+bounds-desk-6 c = omega (arith, c.args.rows.now.on_desk.head)
 
 pub all-requires-clause-callable : goal.all-requires-clause-callable
 all-requires-clause-callable c =
-    serves_from_places (YieldsList-from_slice c.args.named.now cc) (λ x q k. search (rules, tests)) (λ x k l e.
-    let inside : head_words + row_words * (x.now + 1) ≤ length c.args.desk.now = rw (get_or_read c.args.named.now k x.now l e 0) (c.requires.inside k l) in
+    serves_from_places (YieldsList-from_slice c.args.rows.now.named.now cc) (λ x q k. search (rules, tests)) (λ x k l e.
+    let inside : head_words + row_words * (x.now + 1) ≤ length c.args.rows.now.desk.now = rw (get_or_read c.args.rows.now.named.now k x.now l e 0) (c.args.rows.now.on_desk.inside k l) in
     search rules)
 
 pub returns : goal.returns
 unfolding spent decisions
 returns c =
-    let p = open_row c.args.desk.now in
-    let row : ℕ → Row = λ i. row_on c.args.desk.now (get_or c.args.named.now i 0) in
-    every-from_all c.all.result c.args.named.now p
-    (cases_from_all _ _ _ (λ i. p i ≡ true) (λ i. p i ≡ false) c.all.ensures.ran (YieldsList-from_slice c.args.named.now cc) (λ x q k. search (rules, tests)) (λ x q k. search (rules, tests)))
-    ∙ every-ext (length c.args.named.now) (λ i l. once-hard (is_hard (row i)) (eqb (row i).weight 0) (satisfied (decisions c.args.desk.now) (row i).lits))
+    let p = open_row c.args.rows.now.desk.now in
+    let row : ℕ → Row = λ i. row_on c.args.rows.now.desk.now (get_or c.args.rows.now.named.now i 0) in
+    every-from_all c.all.result c.args.rows.now.named.now p
+    (cases_from_all _ _ _ (λ i. p i ≡ true) (λ i. p i ≡ false) c.all.ensures.ran (YieldsList-from_slice c.args.rows.now.named.now cc) (λ x q k. search (rules, tests)) (λ x q k. search (rules, tests)))
+    ∙ every-ext (length c.args.rows.now.named.now) (λ i l. once-hard (is_hard (row i)) (eqb (row i).weight 0) (satisfied (decisions c.args.rows.now.desk.now) (row i).lits))

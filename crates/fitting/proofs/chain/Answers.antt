@@ -9,6 +9,6 @@ returns c =
     rw (
       c.is_same.ensures,
       c.negated.ensures,
-      c.remnant_of.ensures,
+      c.remnant.ensures,
       c.follow-link.ensures,
     )

@@ -14,9 +14,9 @@ returns c =
       c.shows.ensures,
       c.less-c.ensures,
       c.less-b.ensures,
-      c.remnant_of-three.ensures,
-      c.remnant_of-two.ensures,
-      c.remnant_of-one.ensures,
+      c.remnant-three.ensures,
+      c.remnant-two.ensures,
+      c.remnant-one.ensures,
       c.negated-no.ensures,
       c.follow-link.ensures,
     )

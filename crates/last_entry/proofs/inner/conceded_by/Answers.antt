@@ -1,59 +1,65 @@
 -- `conceded_by` meets its contract: a merge that added no row, or the kind.
-use mathlib.Core.Bool.{◌&&◌}
-use lib.Dec.{eqb}
-use Prim.Native.Nat.{◌+◌}
-use lib.ListN.{get_or}
-use mathlib.Core.Path.{◌≡◌, sym, ap, ◌∙◌}
+use Prim.Native.Nat.{◌≤◌}
+use mathlib.Core.Path.{◌≡◌, sym, ◌∙◌}
+use mathlib.Core.Bool.{false, ◌&&◌}
+use native.Mathlib.Nat.{mul-one, mul-zero, mul-le-mul_left}
 use native.Mathlib.Omega.{arith}
-use native.Mathlib.Nat.{mul-one, mul-zero}
-use Rattle.rules.specs.Steps.{concedes}
-use Rattle.rules.specs.TakeBack.{last_place, last_kind, last_conceded, merged_empty, last_weight}
-use Rattle.kinds.proofs.Conceding.{concedes-once}
+use lib.Dec.{eqb}
+use borrow.Author.Tests.{eq-eqb, ne_eqb}
+use Rattle.rules.specs.Desk.{in_use}
+use Rattle.rules.specs.TakeBack.{last_kind, last_first, last_conceded, merged_empty, last_weight}
+use Rattle.kinds.specs.Numbers.{number}
+use Rattle.kinds.proofs.Conceding.{concedes-once, concedes-none}
+use Rattle.kinds.proofs.Numbers.{not-merge}
 use Rattle.last_entry.proofs.Lasts.{step-stands, kind-word, first_word}
 use Rattle.last_entry.proofs.inner.conceded_by.Goals as goal
+use Rattle.last_entry.proofs.inner.conceded_by.Goals.{in_default-kind-via-in-Merge+else-none_added, in_default-kind-via-in_default-kind}
 
-pub last_word-kind-requires : goal.last_word-kind-requires
-last_word-kind-requires c =
-    record {
-      step_stands = step-stands _ c.requires;
-      k_lt_entry_words = omega arith;
-    }
+pub last_word-requires-clause-step_stands : goal.last_word-requires-clause-step_stands
+last_word-requires-clause-step_stands c = step-stands _ c.requires
 
-pub last_word-w-requires : goal.last_word-w-requires
-last_word-w-requires c =
-    record {
-      step_stands = step-stands _ c.requires;
-      k_lt_entry_words = omega arith;
-    }
+pub returns-in_default : goal.returns-in_default
+unfolding last_conceded merged_empty
+returns-in_default c =
+    let k = c.last_word.ensures ∙ kind-word c.args.desk.now in
+    rw (
+      ne_eqb (last_kind c.args.desk.now) 1 (λ e. omega (arith, k, c.in_default.ensures)),
+      concedes-none (last_kind c.args.desk.now) (omega (arith, k, c.in_default.ensures)),
+      mul-zero,
+    )
 
-pub last_word-requires : goal.last_word-requires
-last_word-requires c =
-    record {
-      step_stands = step-stands _ c.requires;
-      k_lt_entry_words = omega arith;
-    }
+pub last_word-w-requires-clause-step_stands : goal.last_word-w-requires-clause-step_stands
+last_word-w-requires-clause-step_stands c = step-stands _ c.requires
 
-pub returns-then-kind-word : goal.returns-then-kind-word
+pub last_word-requires-2-clause-step_stands : goal.last_word-requires-2-clause-step_stands
+last_word-requires-2-clause-step_stands c = step-stands _ c.requires
+
+pub returns-in-Merge : goal.returns-in-Merge
 unfolding last_conceded last_weight merged_empty
-returns-then-kind-word c =
-    let told : (eqb c.last_word-kind.result 1 && eqb c.word.result c.last_word.result) ≡ merged_empty
-    c.args.desk.now = rw (c.last_word-kind.ensures ∙ kind-word c.args.desk.now, c.word.ensures, c.last_word.ensures ∙ first_word c.args.desk.now) in
-    rw (← told, c.if-kind-word.true, mul-one) c.last_word-w.ensures
+returns-in-Merge c =
+    let k : number c.in-Some.kind ≡ last_kind c.args.desk.now = c.in-Some.ensures ∙ c.last_word.ensures ∙ kind-word c.args.desk.now in
+    let same : in_use c.args.desk.now ≡ last_first c.args.desk.now =
+    sym c.word.ensures ∙ c.if-none_added.true ∙ c.last_word-2.ensures ∙ first_word c.args.desk.now in
+    rw (← k, c.in-Merge.is, eq-eqb (in_use c.args.desk.now) (last_first c.args.desk.now) same, mul-one) c.last_word-w.ensures
 
-pub returns-then-concedes-eq0 : goal.returns-then-concedes-eq0
-unfolding last_conceded last_weight merged_empty
-returns-then-concedes-eq0 c =
-    let told : (eqb c.last_word-kind.result 1 && eqb c.word.result c.last_word.result) ≡ merged_empty
-    c.args.desk.now = rw (c.last_word-kind.ensures ∙ kind-word c.args.desk.now, c.word.ensures, c.last_word.ensures ∙ first_word c.args.desk.now) in
-    let k = c.last_word-kind.ensures ∙ kind-word c.args.desk.now in
-    let none : concedes (last_kind c.args.desk.now) ≡ 0 = ap concedes (sym k) ∙ sym c.concedes.ensures ∙ c.if-concedes-eq0.true in
-    rw (← told, c.if-kind-word.false, none) (sym (mul-zero (get_or c.args.desk.now (last_place c.args.desk.now + 1) 0)))
+pub overflow_mul-result : goal.overflow_mul-result
+overflow_mul-result c =
+    let w = c.last_word-w.result in
+    let once : c.concedes.result ≤ 1 = omega (arith, c.concedes.ensures, concedes-once (number c.in-Some.kind)) in
+    record { fits = omega (arith, mul-le-mul_left w once, mul-one w, c.last_word-w.type_inv) }
 
-pub returns : goal.returns
+pub returns-in_default-kind : goal.returns-in_default-kind
 unfolding last_conceded last_weight merged_empty
-returns c =
-    let told : (eqb c.last_word-kind.result 1 && eqb c.word.result c.last_word.result) ≡ merged_empty
-    c.args.desk.now = rw (c.last_word-kind.ensures ∙ kind-word c.args.desk.now, c.word.ensures, c.last_word.ensures ∙ first_word c.args.desk.now) in
-    let k = c.last_word-kind.ensures ∙ kind-word c.args.desk.now in
-    let once : concedes (last_kind c.args.desk.now) ≡ 1 = omega (arith, ap concedes (sym k) ∙ sym c.concedes.ensures, c.if-concedes-eq0.false, concedes-once (last_kind c.args.desk.now)) in
-    rw (← told, c.if-kind-word.false, once, mul-one) c.last_word-w.ensures
+returns-in_default-kind c =
+    let k : number c.in-Some.kind ≡ last_kind c.args.desk.now = c.in-Some.ensures ∙ c.last_word.ensures ∙ kind-word c.args.desk.now in
+    let first = c.last_word-2.ensures ∙ first_word c.args.desk.now in
+    let some : (eqb (last_kind c.args.desk.now) 1 && eqb (in_use c.args.desk.now) (last_first c.args.desk.now)) ≡ false =
+    elim c.in_default-kind.branch [
+      | in_default-kind-via-in-Merge+else-none_added w ↦ rw (
+        ← k,
+        w.in-Merge.is,
+        ne_eqb (in_use c.args.desk.now) (last_first c.args.desk.now) (λ e. w.if-none_added.false (c.word.ensures ∙ e ∙ sym first)),
+      )
+      | in_default-kind-via-in_default-kind w ↦ rw (← k, not-merge c.in-Some.kind w.in_default-kind.not-Merge)
+    ] in
+    rw (some, ← k, c.last_word-w.ensures, c.concedes.ensures)

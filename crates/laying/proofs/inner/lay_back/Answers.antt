@@ -13,16 +13,9 @@ use Rattle.remnants.proofs.Chains.{lit-first, lit-more, compensating-none}
 use Rattle.laying.proofs.Laying.{laid_none, lies-still, remnant-yet, turn-laid}
 use Rattle.laying.proofs.inner.lay_back.Goals as goal
 
-pub remnant_of-lit-requires : goal.remnant_of-lit-requires
-remnant_of-lit-requires c =
-    record {
-      on_desk = c.requires.behind.lies;
-      i_in_bounds = omega arith;
-    }
-
 pub loop-i-init : goal.loop-i-init
 loop-i-init c = (
-  c.remnant_of-lit.ensures ∙ sym (lit-first _),
+  c.remnant-lit.ensures ∙ sym (lit-first _),
   sym (ap (laid c.args.desk.now c.args.first c.args.w) (compensating-none _) ∙ laid_none c.args.desk.now c.args.first c.args.w),
   refl,
 )
@@ -30,12 +23,9 @@ loop-i-init c = (
 pub overflow_add-i : goal.overflow_add-i
 overflow_add-i c = omega arith
 
-pub remnant_of-requires : goal.remnant_of-requires
-remnant_of-requires c =
-    record {
-      on_desk = lies-still c.args.desk.now c.loop-i.desk c.args.named.now c.loop-i.invariant.2 c.requires.behind.lies;
-      i_in_bounds = omega arith;
-    }
+pub invariant_of-remnant-in-loop-i : goal.invariant_of-remnant-in-loop-i
+invariant_of-remnant-in-loop-i c =
+    record { on_desk = lies-still c.args.desk.now c.loop-i.desk c.args.named.now c.loop-i.invariant.2 c.requires.behind.lies }
 
 pub overflow_add-first : goal.overflow_add-first
 overflow_add-first c = omega arith
@@ -46,7 +36,7 @@ set_row-requires c = omega (arith, c.loop-i.invariant.2)
 pub loop-i-preserved : goal.loop-i-preserved
 loop-i-preserved c =
     let f : ℕ → Lits = remnant_of c.args.desk.now c.args.named.now in
-    let remnant : c.remnant_of.result ≡ f (c.loop-i.i + 1) = remnant-yet _ _ _ c.args.w c.loop-i.i (c.requires.behind.before (c.loop-i.i + 1) (omega arith)) c.loop-i.invariant.1 c.remnant_of.ensures in
+    let remnant : c.remnant.result ≡ f (c.loop-i.i + 1) = remnant-yet _ _ _ c.args.w c.loop-i.i (c.requires.behind.before (c.loop-i.i + 1) (omega arith)) c.loop-i.invariant.1 c.remnant.ensures in
     let next : c.less-next.result ≡ R.lit f (c.loop-i.i + 1) = c.less-next.ensures
     ∙ rw (remnant, c.negated.ensures, c.loop-i.invariant.0) (sym (lit-more f c.loop-i.i)) in
     let link : ℕ → Lits = λ i. together (R.lit f i) (negated_lits (R.lit f (i + 1))) in

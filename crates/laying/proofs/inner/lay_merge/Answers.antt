@@ -1,25 +1,21 @@
 -- `lay_merge` meets its contract: an empty rest is not stored.
-use mathlib.Core.Path.{◌≡◌, sym, ap, ◌∙◌}
+use mathlib.Core.Path.{sym, ap, ◌∙◌}
 use Rattle.rules.specs.Desk.{set_row}
-use Rattle.rules.specs.Rewrite.{clash, apart_from, gives, given}
-use Rattle.rules.specs.Steps.{stored, remnant_of}
+use Rattle.rules.specs.Rewrite.{gives, given}
+use Rattle.rules.specs.Steps.{stored}
 use Rattle.laying.proofs.Laying.{laid_none, laid_one}
 use Rattle.laying.proofs.inner.lay_merge.Goals as goal
 
 pub returns-then-is_empty : goal.returns-then-is_empty
 unfolding given gives stored
 returns-then-is_empty c =
-    let f = remnant_of c.args.desk.now c.args.named.now in
-    let rest : c.apart_from-rest.result ≡ apart_from (clash (f 0) (f 1)) (f 0) = rw (c.apart_from-rest.ensures, c.clash.ensures, c.remnant_of-m.ensures, c.remnant_of-l.ensures) in
-    rw (← rest, sym c.is_empty.ensures ∙ c.if-is_empty.true)
+    rw (← c.rest-rest.ensures, sym c.is_empty.ensures ∙ c.if-is_empty.true)
     (sym (laid_none c.args.desk.now c.args.first c.args.w))
 
 pub returns : goal.returns
 unfolding given gives stored
 returns c =
-    let f = remnant_of c.args.desk.now c.args.named.now in
-    let rest : c.apart_from-rest.result ≡ apart_from (clash (f 0) (f 1)) (f 0) = rw (c.apart_from-rest.ensures, c.clash.ensures, c.remnant_of-m.ensures, c.remnant_of-l.ensures) in
-    rw (← rest, sym c.is_empty.ensures ∙ c.if-is_empty.false)
+    rw (← c.rest-rest.ensures, sym c.is_empty.ensures ∙ c.if-is_empty.false)
     (c.set_row.ensures
     ∙ ap (set_row c.args.desk.now c.args.first) c.new.ensures
-    ∙ sym (laid_one c.args.desk.now c.args.first c.args.w c.apart_from-rest.result))
+    ∙ sym (laid_one c.args.desk.now c.args.first c.args.w c.rest-rest.result))

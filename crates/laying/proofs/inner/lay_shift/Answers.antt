@@ -4,6 +4,6 @@ use Rattle.laying.proofs.inner.lay_shift.Goals as goal
 
 pub returns : goal.returns
 returns c =
-    shift-laid _ _ _ _ c.remnant_of-one.ensures c.remnant_of.ensures
+    shift-laid _ _ _ _ c.remnant-one.ensures c.remnant.ensures
     c.negated.ensures c.less-two.ensures c.negated-2.ensures c.together.ensures
     c.lay_two.ensures

@@ -2,7 +2,7 @@
 use Rattle.rules.specs.Rewrite.{forked}
 use Rattle.remnants.specs.Rows.{link_of}
 use Rattle.remnants.specs.Rows.{fork_end}
-use Rattle.remnants.proofs.inner.fork_end.Goals as goal
+use Rattle.remnants.proofs.inner.Naming.fork_end.Goals as goal
 
 pub returns : goal.returns
 unfolding fork_end forked link_of
@@ -13,9 +13,9 @@ returns c =
       c.negated.ensures,
       c.together-bc.ensures,
       c.less-c.ensures,
-      c.remnant_of-2.ensures,
+      c.remnant-2.ensures,
       c.less-b.ensures,
-      c.remnant_of.ensures,
+      c.remnant.ensures,
       c.negated-no.ensures,
       c.follow.ensures,
     )

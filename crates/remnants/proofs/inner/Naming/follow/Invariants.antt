@@ -3,7 +3,7 @@ use mathlib.Core.Path.{◌≡◌}
 use Rattle.rules.specs.Rewrite.{links}
 use Rattle.rules.specs.Steps.{remnant_of}
 use Rattle.rules.specs.Rewrite as R
-use Rattle.remnants.proofs.inner.follow.Given as goal
+use Rattle.remnants.proofs.inner.Naming.follow.Given as goal
 
 abbrev pub invariant-loop-i : goal.invariant-loop-i
-invariant-loop-i l = (l.lit ≡ R.lit (remnant_of l.desk l.named) l.i) × (l.fits ≡ links (remnant_of l.desk l.named) l.i)
+invariant-loop-i l = (l.lit ≡ R.lit (remnant_of l.self.desk.now l.self.named.now) l.i) × (l.fits ≡ links (remnant_of l.self.desk.now l.self.named.now) l.i)
