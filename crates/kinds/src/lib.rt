@@ -97,3 +97,37 @@ impl Kind {
         }
     }
 }
+
+// The figures by a kind's number, of any number: where there is no kind, each figure is 0.
+
+#[tactic(auto, unfolding(rules::specs::Steps::count_fits, rules::specs::Steps::fewest, rules::specs::Steps::most))]
+pub fn count_fits(kind: u64, n: u64) -> bool
+    ensures { result ≡ count_fits kind n }
+{
+    match Kind::of(kind) {
+        Some(known) => known.count_fits(n),
+        None => n == 0,
+    }
+}
+
+// Rows named less rows added.
+#[tactic(auto, unfolding(rules::specs::Steps::fewer_added))]
+pub fn fewer_added(kind: u64) -> u64
+    ensures { result ≡ fewer_added kind }
+{
+    match Kind::of(kind) {
+        Some(known) => known.fewer_added(),
+        None => 0,
+    }
+}
+
+// 1 where the kind concedes w, else 0.
+#[tactic(auto, unfolding(rules::specs::Steps::concedes))]
+pub fn concedes(kind: u64) -> u64
+    ensures { result ≡ concedes kind }
+{
+    match Kind::of(kind) {
+        Some(known) => known.concedes(),
+        None => 0,
+    }
+}
