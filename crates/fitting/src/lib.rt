@@ -2,7 +2,7 @@
 #![tactic(auto)]
 
 ghost use Rattle.std.specs.Prelude.{◌≡◌, ◌+◌, ◌≤◌, length, true, false, Ok, Err, MatchOption, MatchResult};
-ghost use Rattle.rules.specs.Rewrite.{fits, chains, forks, well_fitted, rewrite_why};
+ghost use Rattle.rules.specs.Rewrite.{chains, forks, well_fitted, rewrite_why};
 ghost use Rattle.rules.specs.Steps.{well_named, remnant_of};
 ghost use Rattle.kinds.specs.Numbers.{number};
 ghost use Rattle.remnants.specs.Rows.{WellNamed};
@@ -68,7 +68,7 @@ fn well_named(desk: &[u64], kind: Kind, named: &[u64]) -> bool
     !repeated(named)
 }
 
-// No named row hard, spent or satisfied, and the remnants fit.
+// No named row hard, spent or satisfied, and the remnants fit the kind.
 fn well_fitted(kind: Kind, rows: &Naming) -> bool
     requires { WellNamed (number kind) (length rows.now.named.now) }
     ensures { result ≡ well_fitted rows.now.desk.now (number kind) rows.now.named.now }
@@ -76,7 +76,14 @@ fn well_fitted(kind: Kind, rows: &Naming) -> bool
     if !all_open(rows) {
         return false;
     }
-    fit(kind, rows)
+    match kind {
+        // It names no row.
+        Kind::Decision => unreachable!(),
+        Kind::Merge => merges(rows.remnant(0), rows.remnant(1)),
+        Kind::Shift => rows.follow(1).fits,
+        Kind::Chain => chain(rows, rows.named.len() - 2),
+        Kind::Fork => fork(rows, rows.named.len() - 4),
+    }
 }
 
 // No named row is hard, spent or satisfied.
@@ -92,21 +99,6 @@ fn all_open(rows: &Naming) -> bool
         let row = row_on(desk, *i as usize);
         !(is_hard(row) | ((row.weight == 0) | satisfied(p, row.lits)))
     })
-}
-
-// The remnants fit the kind.
-fn fit(kind: Kind, rows: &Naming) -> bool
-    requires { WellNamed (number kind) (length rows.now.named.now) }
-    ensures { result ≡ fits (number kind) (length rows.now.named.now) (remnant_of rows.now.desk.now rows.now.named.now) }
-{
-    match kind {
-        // It names no row.
-        Kind::Decision => unreachable!(),
-        Kind::Merge => merges(rows.remnant(0), rows.remnant(1)),
-        Kind::Shift => rows.follow(1).fits,
-        Kind::Chain => chain(rows, rows.named.len() - 2),
-        Kind::Fork => fork(rows, rows.named.len() - 4),
-    }
 }
 
 // l1; k rows (not li, l(i+1)); not l(k+1).
