@@ -16,7 +16,7 @@ use rules::{Desk, Part, Refusal, word};
 use values::{is_hard, satisfied};
 use words::inner::row_on;
 
-// The kind of a rewriting that fits, which is asked for by its number.
+// The kind of a rewriting that fits. It is asked for by its number, and one that is unknown is refused with 13.
 pub fn rewrite_why(desk: &[u64], n: u64, named: &[u64]) -> Result<Kind, Refusal>
     ensures { let why = rewrite_why desk.now n named.now in
         MatchResult result (λ kind. (number kind ≡ n) × (why ≡ Ok tt)) (λ refusal. why ≡ Err refusal) }
@@ -52,7 +52,7 @@ fn named_kind(desk: &[u64], n: u64, named: &[u64]) -> Option<Kind>
     Some(kind)
 }
 
-// A rewriting, the right count of rows, all in use, none named twice.
+// A rewriting, the right count of rows, all in use, none named twice. Before that is seen, a row may lie anywhere, so that there is no Naming yet.
 fn well_named(desk: &[u64], kind: Kind, named: &[u64]) -> bool
     ensures { result ≡ well_named desk.now (number kind) named.now }
 {
