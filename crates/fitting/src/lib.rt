@@ -2,7 +2,7 @@
 #![tactic(auto)]
 
 ghost use Rattle.std.specs.Prelude.{◌≡◌, ◌+◌, ◌≤◌, length, true, false, Ok, Err, MatchOption, MatchResult};
-ghost use Rattle.rules.specs.Rewrite.{fits, chains, forks, well_fitted, rewrite_why};
+ghost use Rattle.rules.specs.Rewrite.{chains, forks, well_fitted, rewrite_why};
 ghost use Rattle.rules.specs.Steps.{well_named, remnant_of};
 ghost use Rattle.kinds.specs.Numbers.{number};
 ghost use Rattle.remnants.specs.Rows.{WellNamed};
@@ -16,7 +16,7 @@ use rules::{Desk, Part, Refusal, word};
 use values::{is_hard, satisfied};
 use words::inner::row_on;
 
-// The kind of a rewriting that fits, which is asked for by its number.
+// The kind of a rewriting that fits. It is asked for by its number, and one that is unknown is refused with 13.
 pub fn rewrite_why(desk: &[u64], n: u64, named: &[u64]) -> Result<Kind, Refusal>
     ensures { let why = rewrite_why desk.now n named.now in
         MatchResult result (λ kind. (number kind ≡ n) × (why ≡ Ok tt)) (λ refusal. why ≡ Err refusal) }
@@ -52,7 +52,7 @@ fn named_kind(desk: &[u64], n: u64, named: &[u64]) -> Option<Kind>
     Some(kind)
 }
 
-// A rewriting, the right count of rows, all in use, none named twice.
+// A rewriting, the right count of rows, all in use, none named twice. Before that is seen, a row may lie anywhere, so that there is no Naming yet.
 fn well_named(desk: &[u64], kind: Kind, named: &[u64]) -> bool
     ensures { result ≡ well_named desk.now (number kind) named.now }
 {
@@ -68,7 +68,7 @@ fn well_named(desk: &[u64], kind: Kind, named: &[u64]) -> bool
     !repeated(named)
 }
 
-// No named row hard, spent or satisfied, and the remnants fit.
+// No named row hard, spent or satisfied, and the remnants fit the kind.
 fn well_fitted(kind: Kind, rows: &Naming) -> bool
     requires { WellNamed (number kind) (length rows.now.named.now) }
     ensures { result ≡ well_fitted rows.now.desk.now (number kind) rows.now.named.now }
@@ -76,7 +76,14 @@ fn well_fitted(kind: Kind, rows: &Naming) -> bool
     if !all_open(rows) {
         return false;
     }
-    fit(kind, rows)
+    match kind {
+        // It names no row.
+        Kind::Decision => unreachable!(),
+        Kind::Merge => merges(rows.remnant(0), rows.remnant(1)),
+        Kind::Shift => rows.follow(1).fits,
+        Kind::Chain => chain(rows, rows.named.len() - 2),
+        Kind::Fork => fork(rows, rows.named.len() - 4),
+    }
 }
 
 // No named row is hard, spent or satisfied.
@@ -92,21 +99,6 @@ fn all_open(rows: &Naming) -> bool
         let row = row_on(desk, *i as usize);
         !(is_hard(row) | ((row.weight == 0) | satisfied(p, row.lits)))
     })
-}
-
-// The remnants fit the kind.
-fn fit(kind: Kind, rows: &Naming) -> bool
-    requires { WellNamed (number kind) (length rows.now.named.now) }
-    ensures { result ≡ fits (number kind) (length rows.now.named.now) (remnant_of rows.now.desk.now rows.now.named.now) }
-{
-    match kind {
-        // It names no row.
-        Kind::Decision => unreachable!(),
-        Kind::Merge => merges(rows.remnant(0), rows.remnant(1)),
-        Kind::Shift => rows.follow(1).fits,
-        Kind::Chain => chain(rows, rows.named.len() - 2),
-        Kind::Fork => fork(rows, rows.named.len() - 4),
-    }
 }
 
 // l1; k rows (not li, l(i+1)); not l(k+1).

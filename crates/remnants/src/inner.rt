@@ -109,14 +109,14 @@ pub fn shows(r: Lits, l: Lits, m: Lits) -> bool
 }
 
 // The variables on which two remnants are of opposite signs.
-pub fn clash(l: Lits, m: Lits) -> u64
+fn clash(l: Lits, m: Lits) -> u64
     ensures { result ≡ clash l m }
 {
     (l.positive & m.negative) | (l.negative & m.positive)
 }
 
 // A remnant without the literals on some variables.
-pub fn apart_from(mask: u64, l: Lits) -> Lits
+fn apart_from(mask: u64, l: Lits) -> Lits
     ensures { result ≡ apart_from mask l }
 {
     let positive = masks::without(l.positive, mask);

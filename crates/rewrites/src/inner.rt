@@ -13,6 +13,7 @@ use remnants::inner::Naming;
 use rules::{Desk, Entry};
 use words::inner::enter;
 
+// The desk is written, so that it comes apart from the rows named.
 pub fn rewrite_step(desk: &mut [u64], kind: Kind, named: &[u64])
     requires { rewrite_why desk.old (number kind) named.now ≡ Ok tt }
     ensures { desk.new ≡ rewrite_step desk.old (number kind) named.now }

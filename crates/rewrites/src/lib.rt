@@ -10,7 +10,7 @@ use rules::Refusal;
 
 pub mod inner;
 
-// Merge, shift, chain or fork on the named rows.
+// Merge, shift, chain or fork on the named rows. Callers ask for a kind by its number, and one that is unknown is refused with 13.
 pub fn rewrite(desk: &mut [u64], kind: u64, named: &[u64]) -> Result<(), Refusal>
     ensures value { result ≡ rewrite_why desk.old kind named.now }
     ensures desk_after { desk.new ≡ rewrite_desk desk.old kind named.now }
