@@ -80,5 +80,8 @@ fn copy(table: &[u64], desk: &mut [u64], at: usize)
     requires { at + length table.now ≤ length desk.old }
     ensures { desk.new ≡ sets desk.old at table.now }
 {
-    desk[at..at + table.len()].copy_from_slice(table);
+    // Word by word: the library's copy of so many words needs `memmove`, and the archive for C is to need `memcpy` and `memset` alone.
+    for i in 0..table.len() {
+        desk[at + i] = table[i];
+    }
 }

@@ -80,6 +80,20 @@ module _ (s : List ℕ) (at : ℕ) where
 
 -- ---- the end of a line
 
+module _ (s : List ℕ) (at : ℕ) where
+  pub feed-here : at < length s → get_or s at 0 ≡ line_feed → feed_from (length s - at) s at ≡ at
+  unfolding feed_from
+  feed-here h e =
+      let fuel : length s - at ≡ suc (length s - (at + 1)) = omega arith in
+      rw (fuel, eq-eqb (get_or s at 0) line_feed e)
+
+  pub feed-on : at < length s → (get_or s at 0 ≡ line_feed → ⊥) → feed_from (length s - at) s at ≡ feed_from (length s - (at + 1)) s (at + 1)
+  unfolding feed_from
+  feed-on h e =
+      let fuel : length s - at ≡ suc (length s - (at + 1)) = omega arith in
+      let near : suc at ≡ at + 1 = omega arith in
+      rw (fuel, ne_eqb (get_or s at 0) line_feed e, near)
+
 pub feed-none : (s : List ℕ) (at : ℕ) → length s ≤ at → feed_from (length s - at) s at ≡ at
 unfolding feed_from
 feed-none s at h = let fuel : length s - at ≡ 0 = omega arith in rw fuel

@@ -30,8 +30,11 @@ pub fn parted_at(s: &[u8], at: usize) -> Option<(u64, usize)>
 pub fn feed_from(s: &[u8], from: usize) -> usize
     ensures { result ≡ feed_from (length s.now - from) s.now from }
 {
-    let Some(rest) = s.get(from..) else {
-        return from;
-    };
-    from + rest.iter().take_while(|b| **b != b'\n').count()
+    // Place by place: a byte costs half as much again where it is counted by `take_while`.
+    for at in from..s.len() {
+        if s[at] == b'\n' {
+            return at;
+        }
+    }
+    from.max(s.len())
 }

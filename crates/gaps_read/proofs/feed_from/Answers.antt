@@ -1,29 +1,26 @@
--- `feed_from` meets its contract: past the text's end the line ends there, and else behind those at the front of what is left that are no LF.
-use Prim.Native.Nat.{◌+◌, ◌-◌}
-use mathlib.Core.Path.{sym, ap, ◌∙◌}
-use mathlib.Core.Bool.{not}
+-- `feed_from` meets its contract: a place that ends the line is the one, and one that does not is passed.
+use Prim.Native.Nat.{◌≤◌, max}
+use mathlib.Core.Path.{◌≡◌, refl, ◌∙◌}
 use native.Mathlib.Omega.{arith}
-use borrow.Author.Rules.{rules}
-use borrow.Author.Tests.{tests}
-use lib.Dec.{eqb}
-use lib.ListN.{length, drop}
-use Rattle.std.proofs.lemmas.Iterator.{YieldsList-from_slice}
-use Rattle.std.proofs.lemmas.Iterator.Consumers.{count_from_yields_List}
-use Rattle.std.proofs.lemmas.Iterator.Search.{YieldsList-from_take_while}
-use Rattle.std.proofs.lemmas.List.Folds.{length-prefix_len}
-use Rattle.gaps_read.proofs.Spaces.{left-is, feed-none, feed-prefix}
+use lib.ListN.{length}
+use Rattle.std.proofs.Math.Nat.{le-max_left, le-max_right, max-le}
+use Rattle.text_laws.proofs.Matched.{matched}
+use Rattle.gaps_read.proofs.Spaces.{feed-here, feed-on, feed-none}
 use Rattle.gaps_read.proofs.feed_from.Goals as goal
 
-pub returns-in_default : goal.returns-in_default
-returns-in_default c = sym (feed-none c.args.s.now c.args.from (omega (arith, c.in_default.ensures.lookup.0)))
+pub loop-at-init : goal.loop-at-init
+loop-at-init c = (refl, le-max_left c.args.from (length c.args.s.now))
+
+pub returns-then-s-at-eq10 : goal.returns-then-s-at-eq10
+returns-then-s-at-eq10 c = matched (feed-here c.args.s.now c.loop-at.at (omega arith) c.if-s-at-eq10.true) c.loop-at.invariant.0
+
+pub loop-at-preserved : goal.loop-at-preserved
+loop-at-preserved c =
+    (matched (feed-on c.args.s.now c.loop-at.at (omega arith) c.if-s-at-eq10.false) c.loop-at.invariant.0,
+    omega (arith, le-max_right c.args.from (length c.args.s.now)))
 
 pub returns : goal.returns
 returns c =
-    let rest = drop c.args.from c.args.s.now in
-    let left = c.in-Some.ensures.lookup.0.2 ∙ left-is c.args.s.now c.args.from in
-    ap (λ n. c.args.from + n)
-    (count_from_yields_List c.take_while.result _ c.count.ensures.ran
-    (YieldsList-from_take_while _ (λ b. not (eqb b 10)) (YieldsList-from_slice rest (cc)) c.take_while.ensures.closure c.take_while.ensures.done
-    (λ x b q k. search (rules, tests)))
-    ∙ length-prefix_len (λ b. not (eqb b 10)) rest)
-    ∙ feed-prefix (length c.args.s.now - c.args.from) c.args.s.now c.args.from (omega (arith, c.in-Some.ensures.lookup.0.0))
+    let passed : max c.args.from (length c.args.s.now) ≤ c.loop-at.at = max-le (omega arith) (omega arith) in
+    let there : c.max.result ≡ c.loop-at.at = omega (arith, c.loop-at.invariant.1, passed) in
+    there ∙ matched (feed-none c.args.s.now c.loop-at.at (omega arith)) c.loop-at.invariant.0
