@@ -30,7 +30,7 @@ pub fn parted_at(s: &[u8], at: usize) -> Option<(u64, usize)>
 pub fn feed_from(s: &[u8], from: usize) -> usize
     ensures { result ≡ feed_from (length s.now - from) s.now from }
 {
-    // Place by place: a byte costs half as much again where it is counted by `take_while`.
+    // Place by place: bytes counted by `take_while` were seen to take up to half as long again.
     for at in from..s.len() {
         if s[at] == b'\n' {
             return at;

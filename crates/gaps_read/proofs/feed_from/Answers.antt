@@ -15,9 +15,10 @@ pub returns-then-s-at-eq10 : goal.returns-then-s-at-eq10
 returns-then-s-at-eq10 c = matched (feed-here c.args.s.now c.loop-at.at (omega arith) c.if-s-at-eq10.true) c.loop-at.invariant.0
 
 pub loop-at-preserved : goal.loop-at-preserved
-loop-at-preserved c =
-    (matched (feed-on c.args.s.now c.loop-at.at (omega arith) c.if-s-at-eq10.false) c.loop-at.invariant.0,
-    omega (arith, le-max_right c.args.from (length c.args.s.now)))
+loop-at-preserved c = (
+  matched (feed-on c.args.s.now c.loop-at.at (omega arith) c.if-s-at-eq10.false) c.loop-at.invariant.0,
+  omega (arith, le-max_right c.args.from (length c.args.s.now)),
+)
 
 pub returns : goal.returns
 returns c =
