@@ -1,18 +1,16 @@
 -- What an input comes to, by case: too long, not read, read.
 use Rattle.std.specs.Prelude.{Result, Ok, Err}
-use Prim.Native.Nat.{ℕ, ◌+◌, ◌*◌, ◌<◌, ◌≤◌}
-use mathlib.Core.Path.{◌≡◌, refl, ap}
+use Prim.Native.Nat.{ℕ, ◌*◌, ◌<◌, ◌≤◌}
+use mathlib.Core.Path.{◌≡◌, ap}
 use mathlib.Core.List.{List}
-use native.Mathlib.Omega.{arith}
 use borrow.Author.Tests.{lt-ltb, le-ltb}
 use lib.ListN.{length}
 use Rattle.rules.specs.declared.Refusal.{Refusal}
-use Rattle.rules.specs.declared.Refusal.TheVariants.{InputTooLong, NoRoom}
+use Rattle.rules.specs.declared.Refusal.TheVariants.{InputTooLong}
 use Rattle.rules.specs.declared.Outcome.{Outcome}
 use Rattle.rules.specs.Table.{row_words}
 use Rattle.rules.specs.Reader.{read_words, text_read, text_says}
-use Rattle.rules.specs.Program.{most_input, most_input_rows, table_outcome, outcome_text, outcome_of, answer, answered, answer_out}
-use Rattle.text_laws.proofs.LentBytes.{text-no-room}
+use Rattle.rules.specs.Program.{most_input, most_input_rows, table_outcome, outcome_text, outcome_of, answer}
 
 pub too_long : (input : List ℕ) → most_input < length input → Err InputTooLong ≡ outcome_of input
 unfolding outcome_of
@@ -37,10 +35,3 @@ module _ (input : List ℕ) (short : length input ≤ most_input) where
 pub lines_are : (input : List ℕ) (o : Result Outcome Refusal) → o ≡ outcome_of input → outcome_text o ≡ answer input
 unfolding answer
 lines_are input o e = ap outcome_text e
-
--- lines that were counted and do not fit
-pub too-short : (input out : List ℕ) (o : Result Outcome Refusal) (n : ℕ) → o ≡ outcome_of input → n ≡ 0 + length (outcome_text o) → length out < n
-    → (Err NoRoom ≡ answered input out) × (out ≡ answer_out input out)
-too-short input out o n e long h =
-    let lines = ap length (lines_are input o e) in
-    text-no-room (Ok tt) (answer input) out refl (omega (arith, long, lines, h))
